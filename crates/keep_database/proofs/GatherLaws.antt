@@ -12,12 +12,9 @@ use Rattle.std.proofs.lemmas.List.Elements.{recursion_from_All}
 use Rattle.sqlite_keyed.proofs.ListLemmas.{all_unmap}
 use Rattle.road_time.specs.declared.tariff.Tariff.{Tariff}
 use Rattle.road_time.specs.Rates.{Tariffs, IsTariff, benchmark, same_tariff}
-use Rattle.road_time.specs.Tariffs.{IsTariffs, with_tariff}
+use Rattle.road_time.specs.Tariffs.{IsTariffs}
+use Rattle.keep_database.specs.Exact.{with_entry}
 use Rattle.keep_database.proofs.RowItems.{all_both}
-
--- with one more tariff
-abbrev pub with_entry : Tariffs → ℕ × Tariff → Tariffs
-with_entry ts e = with_tariff ts e.0 e.1
 
 -- all expressways are before one
 abbrev AllBefore : Tariffs → ℕ → Type 0

@@ -1,8 +1,10 @@
 pub mod CauseSteps
+pub mod ExactLaws
 pub mod GatherLaws
 pub mod GiveLaws
 pub mod LookLaws
 pub mod RiseLaws
 pub mod RowItems
+pub mod ShowLaws
 pub mod StandLaws
 pub mod TellLaws

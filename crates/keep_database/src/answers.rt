@@ -13,6 +13,7 @@ ghost use Rattle.keep_tables.specs.Codec.{spent_row, past_values};
 ghost use Rattle.keep_tables.specs.Shown.{day_columns, seal_columns, tariff_columns, row_if_any, last_rows};
 ghost use Rattle.keep_tables.specs.Stands.{FitsDay, FitsSpent};
 ghost use Rattle.keep_tables.specs.Amounts.{HasAmount};
+ghost use Rattle.keep_database.specs.Exact.{AreAmounts, AreTariffsIn, IsBefore, IsDayIn, IsLastIn, IsPastIn};
 ghost use Rattle.keep_database.specs.Gives.{Gives, FitsBased};
 
 use crate::order::rise;
@@ -27,6 +28,7 @@ use std::alloc::Global;
 pub fn amounts_of(alloc: Global, found: &[Row]) -> Result<Vec<SpentRow>, KeepFault>
     ensures gives { (rows : List SpentRow) → AllByRecursion FitsSpent rows → RowsRise rows
         → found.now ≡ map spent_row rows → Gives (λ v. v.items) result rows }
+    ensures exact { IfOk result (λ v. AreAmounts found.now v.items) }
     ensures rise { IfOk result (λ v. RowsRise v.items) }
     ensures memory { result ≡ Err NoMemory → 0 < length found.now }
 {
@@ -42,6 +44,7 @@ pub fn amounts_of(alloc: Global, found: &[Row]) -> Result<Vec<SpentRow>, KeepFau
 fn all_amounts(alloc: Global, found: &[Row]) -> Result<Vec<SpentRow>, KeepFault>
     ensures gives { (rows : List SpentRow) → AllByRecursion FitsSpent rows → found.now ≡ map spent_row rows
         → Gives (λ v. v.items) result rows }
+    ensures exact { IfOk result (λ v. AreAmounts found.now v.items) }
     ensures memory { result ≡ Err NoMemory → 0 < length found.now }
 {
     let mut rows = Vec::new(alloc);
@@ -56,6 +59,7 @@ fn all_amounts(alloc: Global, found: &[Row]) -> Result<Vec<SpentRow>, KeepFault>
 pub fn tariffs_of(alloc: Global, found: &[Row]) -> Result<Tariffs, KeepFault>
     ensures gives { (ts : Tariffs) → IsTariffs ts → AllByRecursion (λ e. e.0 < 2 ^ 8) ts
         → found.now ≡ map tariff_columns ts → Gives (λ x. x) result ts }
+    ensures exact { IfOk result (λ tariffs. AreTariffsIn found.now tariffs) }
     ensures memory { result ≡ Err NoMemory → 0 < length found.now }
 {
     let mut tariffs = Tariffs::new(alloc);
@@ -70,6 +74,7 @@ pub fn tariffs_of(alloc: Global, found: &[Row]) -> Result<Tariffs, KeepFault>
 pub fn past_of(found: &[Row]) -> Result<Option<PastRecord>, KeepFault>
     ensures gives { (p : Option PastRecord) → IfSome p FitsBased → found.now ≡ row_if_any past_values p
         → Gives (λ x. x) result p }
+    ensures exact { IfOk result (λ p. IsPastIn found.now p) }
     ensures few { OnOk result (length found.now < 2) }
     ensures memory { result ≡ Err NoMemory → 0 < length found.now }
     ensures based { IfOk result (λ p. IfSome p (λ q. 70 ≤ q.base)) }
@@ -89,6 +94,7 @@ pub fn day_of(day: u32, found: &[Row], seals: &[Row]) -> Result<Option<DayRecord
     ensures gives { (kept : Option DayRecord) → IfSome kept (λ r. FitsDay r × (r.day ≡ day))
         → found.now ≡ row_if_any day_columns kept → seals.now ≡ row_if_any seal_columns kept →
         Gives (λ x. x) result kept }
+    ensures exact { IfOk result (λ kept. IsDayIn day found.now seals.now kept) }
     ensures none { result ≡ Ok None → length found.now ≡ 0 }
     ensures memory { result ≡ Err NoMemory → 0 < length found.now }
     ensures sealed { IfOk result (λ kept. IfSome kept (λ r. (length found.now ≡ 1) × (length seals.now ≡ 1))) }
@@ -104,6 +110,7 @@ pub fn day_of(day: u32, found: &[Row], seals: &[Row]) -> Result<Option<DayRecord
 fn sealed_day(day: u32, row: &Row, seals: &[Row]) -> Result<Option<DayRecord>, KeepFault>
     ensures gives { (r : DayRecord) → FitsDay r → r.day ≡ day → row.now ≡ day_columns r
         → seals.now ≡ seal_columns r ∷ [] → Gives (λ x. x) result (Some r) }
+    ensures exact { IfOk result (λ kept. IsDayIn day (row.now ∷ []) seals.now kept) }
     ensures sealed { IfOk result (λ kept. IsSome kept × (length seals.now ≡ 1)) }
 {
     match seals {
@@ -118,6 +125,7 @@ fn sealed_day(day: u32, row: &Row, seals: &[Row]) -> Result<Option<DayRecord>, K
 /// The amount that an answer has, 0 for none.
 pub fn amount_in(found: &[Row]) -> Result<u64, KeepFault>
     ensures gives { (tolls : ℕ) → HasAmount found.now tolls → Gives (λ x. x) result tolls }
+    ensures exact { IfOk result (λ tolls. HasAmount found.now tolls) }
     ensures few { OnOk result (length found.now < 2) }
     ensures pure { result ≢ Err NoMemory }
 {
@@ -133,6 +141,7 @@ pub fn last_of(days: &[Row], found: &[Row]) -> Result<u32, KeepFault>
     ensures gives { (ds : List DayRecord) → (p : Option PastRecord) → AllByRecursion FitsDay ds → IfSome p FitsBased
         → days.now ≡ last_rows ds → found.now ≡ row_if_any past_values p
         → Gives (λ x. x) result (last_from ds p) }
+    ensures exact { IfOk result (λ last. IsLastIn days.now found.now last) }
     ensures memory { result ≡ Err NoMemory → 0 < length found.now }
 {
     match days {
@@ -146,6 +155,7 @@ pub fn last_of(days: &[Row], found: &[Row]) -> Result<u32, KeepFault>
 fn before(found: &[Row]) -> Result<u32, KeepFault>
     ensures gives { (p : Option PastRecord) → IfSome p FitsBased → found.now ≡ row_if_any past_values p
         → Gives (λ x. x) result (day_before p) }
+    ensures exact { IfOk result (λ last. IsBefore found.now last) }
     ensures memory { result ≡ Err NoMemory → 0 < length found.now }
 {
     match past_of(found)? {

@@ -12,9 +12,11 @@ ghost use Rattle.keep_tables.specs.Stands.{HasOffice, StandsForOffice};
 ghost use Rattle.keep_tables.specs.Steps.{FitsAny};
 ghost use Rattle.keep_writes.specs.Causes.{WasRefusedIn, HasCauseOf, LackedMemory};
 ghost use Rattle.keep_writes.specs.Runs.{CommitsRun};
-ghost use Rattle.keep_writes.specs.Writes.{WritesDay, WritesPast, WritesTariff};
+ghost use Rattle.keep_writes.specs.Writes.{WritesDay, WritesPast, WritesTariff, day_texts, past_texts, tariff_texts};
 ghost use Rattle.keep_database.specs.Gives.{GivesUnless, WantsMemory};
 ghost use Rattle.keep_database.specs.Looks.{CommitsFrom, HasSecond, IsSealed, TellsRefusal};
+ghost use Rattle.keep_database.specs.Shows.{ShowsDay, ShowsLast, ShowsPast, ShowsRows, ShowsSpent, ShowsTariffs};
+ghost use Rattle.keep_database.specs.Shows.{ShowsVehicleRows};
 
 use crate::reads;
 use crate::versions::ready;
@@ -35,6 +37,7 @@ pub fn last_day<S: Alter>(conn: &mut Connection<S>) -> Result<u32, KeepFault>
         → StandsForOffice (state S.Store conn.old).committed o → result ≡ Err NoMemory
         → WantsMemory S.Store conn.old conn.new (IsSome o.past) }
     ensures version { HasCleanDisk (state S.Store conn.new) → OnOk result (HasSecond S.Store conn.old) }
+    ensures shows { HasCleanDisk (state S.Store conn.new) → IfOk result (λ last. ShowsLast S.Store conn.old last) }
     ensures open { HasCleanDisk (state S.Store conn.new) → OnOk result (IsTrue (state S.Store conn.new).is_open) }
     ensures survives { Survives (state S.Store conn.old) (state S.Store conn.new) (λ _. ⊥) }
 {
@@ -55,6 +58,7 @@ pub fn day<S: Alter>(conn: &mut Connection<S>, day: u32) -> Result<Option<DayRec
     ensures sealed { HasCleanDisk (state S.Store conn.new)
         → IfOk result (λ kept. IfSome kept (λ r. IsSealed S.Store day conn.old)) }
     ensures version { HasCleanDisk (state S.Store conn.new) → OnOk result (HasSecond S.Store conn.old) }
+    ensures shows { HasCleanDisk (state S.Store conn.new) → IfOk result (λ kept. ShowsDay S.Store day conn.old kept) }
     ensures open { HasCleanDisk (state S.Store conn.new) → OnOk result (IsTrue (state S.Store conn.new).is_open) }
     ensures survives { Survives (state S.Store conn.old) (state S.Store conn.new) (λ _. ⊥) }
 {
@@ -74,6 +78,7 @@ pub fn past<S: Alter>(conn: &mut Connection<S>) -> Result<Option<PastRecord>, Ke
         → WantsMemory S.Store conn.old conn.new (IsSome o.past) }
     ensures based { IfOk result (λ p. IfSome p (λ q. 70 ≤ q.base)) }
     ensures version { HasCleanDisk (state S.Store conn.new) → OnOk result (HasSecond S.Store conn.old) }
+    ensures shows { HasCleanDisk (state S.Store conn.new) → IfOk result (λ past. ShowsPast S.Store conn.old past) }
     ensures open { HasCleanDisk (state S.Store conn.new) → OnOk result (IsTrue (state S.Store conn.new).is_open) }
     ensures survives { Survives (state S.Store conn.old) (state S.Store conn.new) (λ _. ⊥) }
 {
@@ -97,6 +102,8 @@ pub fn spent<S: Alter>(
         → StandsForOffice (state S.Store conn.old).committed o → result ≡ Err NoMemory
         → LackedMemory S.Store conn.old conn.new }
     ensures version { HasCleanDisk (state S.Store conn.new) → OnOk result (HasSecond S.Store conn.old) }
+    ensures shows { HasCleanDisk (state S.Store conn.new)
+        → IfOk result (λ tolls. ShowsSpent S.Store day vid xway conn.old tolls) }
     ensures open { HasCleanDisk (state S.Store conn.new) → OnOk result (IsTrue (state S.Store conn.new).is_open) }
     ensures survives { Survives (state S.Store conn.old) (state S.Store conn.new) (λ _. ⊥) }
 {
@@ -121,6 +128,8 @@ pub fn rows<S: Alter>(
         → WantsMemory S.Store conn.old conn.new (rows_between o from to ≢ []) }
     ensures rise { IfOk result (λ v. RowsRise v.items) }
     ensures version { HasCleanDisk (state S.Store conn.new) → OnOk result (HasSecond S.Store conn.old) }
+    ensures shows { HasCleanDisk (state S.Store conn.new)
+        → IfOk result (λ v. ShowsRows S.Store from to conn.old v.items) }
     ensures open { HasCleanDisk (state S.Store conn.new) → OnOk result (IsTrue (state S.Store conn.new).is_open) }
     ensures survives { Survives (state S.Store conn.old) (state S.Store conn.new) (λ _. ⊥) }
 {
@@ -147,6 +156,8 @@ pub fn vehicle_rows<S: Alter>(
         → WantsMemory S.Store conn.old conn.new (vehicle_rows_between o vid from to ≢ []) }
     ensures rise { IfOk result (λ v. RowsRise v.items) }
     ensures version { HasCleanDisk (state S.Store conn.new) → OnOk result (HasSecond S.Store conn.old) }
+    ensures shows { HasCleanDisk (state S.Store conn.new)
+        → IfOk result (λ v. ShowsVehicleRows S.Store vid from to conn.old v.items) }
     ensures open { HasCleanDisk (state S.Store conn.new) → OnOk result (IsTrue (state S.Store conn.new).is_open) }
     ensures survives { Survives (state S.Store conn.old) (state S.Store conn.new) (λ _. ⊥) }
 {
@@ -165,6 +176,8 @@ pub fn tariffs<S: Alter>(conn: &mut Connection<S>, alloc: Global) -> Result<Tari
         → StandsForOffice (state S.Store conn.old).committed o → result ≡ Err NoMemory
         → WantsMemory S.Store conn.old conn.new (o.tariffs ≢ []) }
     ensures version { HasCleanDisk (state S.Store conn.new) → OnOk result (HasSecond S.Store conn.old) }
+    ensures shows { HasCleanDisk (state S.Store conn.new)
+        → IfOk result (λ tariffs. ShowsTariffs S.Store conn.old tariffs) }
     ensures open { HasCleanDisk (state S.Store conn.new) → OnOk result (IsTrue (state S.Store conn.new).is_open) }
     ensures survives { Survives (state S.Store conn.old) (state S.Store conn.new) (λ _. ⊥) }
 {
@@ -190,7 +203,7 @@ pub fn put_day<S: Alter>(
         → StandsForOffice (state S.Store conn.old).committed o
         → IfErr result (HasCauseOf S.Store (WritesDay kept.now rows.now) conn.old conn.new) }
     ensures wrote { HasCleanDisk (state S.Store conn.new)
-        → OnOk result (CommitsRun S.Store (WritesDay kept.now rows.now) conn.old conn.new) }
+        → OnOk result (CommitsRun S.Store (day_texts kept.now rows.now) conn.old conn.new) }
     ensures told { HasCleanDisk (state S.Store conn.new)
         → IfErr result (λ fault. TellsRefusal S.Store (WritesDay kept.now rows.now) conn.old conn.new fault
         why.old why.new) }
@@ -223,7 +236,7 @@ pub fn put_past<S: Alter>(
         → StandsForOffice (state S.Store conn.old).committed o
         → IfErr result (HasCauseOf S.Store (WritesPast kept.now rows.now) conn.old conn.new) }
     ensures wrote { HasCleanDisk (state S.Store conn.new)
-        → OnOk result (CommitsRun S.Store (WritesPast kept.now rows.now) conn.old conn.new) }
+        → OnOk result (CommitsRun S.Store (past_texts kept.now rows.now) conn.old conn.new) }
     ensures told { HasCleanDisk (state S.Store conn.new)
         → IfErr result (λ fault. TellsRefusal S.Store (WritesPast kept.now rows.now) conn.old conn.new fault
         why.old why.new) }
@@ -256,7 +269,7 @@ pub fn put_tariff<S: Alter>(
         → StandsForOffice (state S.Store conn.old).committed o
         → IfErr result (HasCauseOf S.Store (WritesTariff xway tariff.now) conn.old conn.new) }
     ensures wrote { HasCleanDisk (state S.Store conn.new)
-        → OnOk result (CommitsRun S.Store (WritesTariff xway tariff.now) conn.old conn.new) }
+        → OnOk result (CommitsRun S.Store (tariff_texts xway tariff.now) conn.old conn.new) }
     ensures told { HasCleanDisk (state S.Store conn.new)
         → IfErr result (λ fault. TellsRefusal S.Store (WritesTariff xway tariff.now) conn.old conn.new fault
         why.old why.new) }

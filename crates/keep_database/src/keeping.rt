@@ -14,10 +14,12 @@ ghost use Rattle.keep_tables.specs.Steps.{FitsAny};
 ghost use Rattle.keep_tables.specs.Told.{told_in};
 ghost use Rattle.keep_writes.specs.Causes.{WasRefused, WasRefusedIn, HasCauseOf, LackedMemory};
 ghost use Rattle.keep_writes.specs.Runs.{CommitsRun};
-ghost use Rattle.keep_writes.specs.Writes.{WritesDay, WritesPast, WritesTariff};
+ghost use Rattle.keep_writes.specs.Writes.{WritesDay, WritesPast, WritesTariff, day_texts, past_texts, tariff_texts};
 ghost use Rattle.keep_writes.specs.Counts.{faults_after};
 ghost use Rattle.keep_database.specs.Gives.{GivesUnless, WantsMemory};
 ghost use Rattle.keep_database.specs.Looks.{CommitsFrom, HasSecond, IsSealed, TellsRefusal};
+ghost use Rattle.keep_database.specs.Shows.{ShowsDay, ShowsLast, ShowsPast, ShowsRows, ShowsSpent, ShowsTariffs};
+ghost use Rattle.keep_database.specs.Shows.{ShowsVehicleRows};
 
 use crate::calls;
 use crate::proved::ProvedKeeper;
@@ -60,6 +62,8 @@ impl<S: Steady> Keeper for ProvedKeeper<S> {
             → WantsMemory S.Store self.old.conn self.new.conn (IsSome o.past) }
         ensures version { HasCleanDisk (state S.Store self.new.conn)
             → OnOk result (HasSecond S.Store self.old.conn) }
+        ensures shows { HasCleanDisk (state S.Store self.new.conn)
+            → IfOk result (λ last. ShowsLast S.Store self.old.conn last) }
         ensures open { HasCleanDisk (state S.Store self.new.conn)
             → OnOk result (IsTrue (state S.Store self.new.conn).is_open) }
         ensures why { HasCleanDisk (state S.Store self.new.conn) → (o : Office)
@@ -93,6 +97,8 @@ impl<S: Steady> Keeper for ProvedKeeper<S> {
             → IfOk result (λ kept. IfSome kept (λ r. IsSealed S.Store day self.old.conn)) }
         ensures version { HasCleanDisk (state S.Store self.new.conn)
             → OnOk result (HasSecond S.Store self.old.conn) }
+        ensures shows { HasCleanDisk (state S.Store self.new.conn)
+            → IfOk result (λ kept. ShowsDay S.Store day self.old.conn kept) }
         ensures open { HasCleanDisk (state S.Store self.new.conn)
             → OnOk result (IsTrue (state S.Store self.new.conn).is_open) }
         ensures why { HasCleanDisk (state S.Store self.new.conn) → (o : Office)
@@ -124,6 +130,8 @@ impl<S: Steady> Keeper for ProvedKeeper<S> {
         ensures based { IfOk result (λ p. IfSome p (λ q. 70 ≤ q.base)) }
         ensures version { HasCleanDisk (state S.Store self.new.conn)
             → OnOk result (HasSecond S.Store self.old.conn) }
+        ensures shows { HasCleanDisk (state S.Store self.new.conn)
+            → IfOk result (λ past. ShowsPast S.Store self.old.conn past) }
         ensures open { HasCleanDisk (state S.Store self.new.conn)
             → OnOk result (IsTrue (state S.Store self.new.conn).is_open) }
         ensures why { HasCleanDisk (state S.Store self.new.conn) → (o : Office)
@@ -152,6 +160,8 @@ impl<S: Steady> Keeper for ProvedKeeper<S> {
             → GivesUnless (WasRefused S.Store) (λ x. x) result (paid o.rows day vid xway) }
         ensures version { HasCleanDisk (state S.Store self.new.conn)
             → OnOk result (HasSecond S.Store self.old.conn) }
+        ensures shows { HasCleanDisk (state S.Store self.new.conn)
+            → IfOk result (λ tolls. ShowsSpent S.Store day vid xway self.old.conn tolls) }
         ensures open { HasCleanDisk (state S.Store self.new.conn)
             → OnOk result (IsTrue (state S.Store self.new.conn).is_open) }
         ensures why { HasCleanDisk (state S.Store self.new.conn) → (o : Office)
@@ -187,6 +197,8 @@ impl<S: Steady> Keeper for ProvedKeeper<S> {
             → WantsMemory S.Store self.old.conn self.new.conn (rows_between o from to ≢ []) }
         ensures version { HasCleanDisk (state S.Store self.new.conn)
             → OnOk result (HasSecond S.Store self.old.conn) }
+        ensures shows { HasCleanDisk (state S.Store self.new.conn)
+            → IfOk result (λ v. ShowsRows S.Store from to self.old.conn v.items) }
         ensures open { HasCleanDisk (state S.Store self.new.conn)
             → OnOk result (IsTrue (state S.Store self.new.conn).is_open) }
         ensures why { HasCleanDisk (state S.Store self.new.conn) → (o : Office)
@@ -219,6 +231,8 @@ impl<S: Steady> Keeper for ProvedKeeper<S> {
             → WantsMemory S.Store self.old.conn self.new.conn (vehicle_rows_between o vid from to ≢ []) }
         ensures version { HasCleanDisk (state S.Store self.new.conn)
             → OnOk result (HasSecond S.Store self.old.conn) }
+        ensures shows { HasCleanDisk (state S.Store self.new.conn)
+            → IfOk result (λ v. ShowsVehicleRows S.Store vid from to self.old.conn v.items) }
         ensures open { HasCleanDisk (state S.Store self.new.conn)
             → OnOk result (IsTrue (state S.Store self.new.conn).is_open) }
         ensures why { HasCleanDisk (state S.Store self.new.conn) → (o : Office)
@@ -250,6 +264,8 @@ impl<S: Steady> Keeper for ProvedKeeper<S> {
             → WantsMemory S.Store self.old.conn self.new.conn (o.tariffs ≢ []) }
         ensures version { HasCleanDisk (state S.Store self.new.conn)
             → OnOk result (HasSecond S.Store self.old.conn) }
+        ensures shows { HasCleanDisk (state S.Store self.new.conn)
+            → IfOk result (λ tariffs. ShowsTariffs S.Store self.old.conn tariffs) }
         ensures open { HasCleanDisk (state S.Store self.new.conn)
             → OnOk result (IsTrue (state S.Store self.new.conn).is_open) }
         ensures why { HasCleanDisk (state S.Store self.new.conn) → (o : Office)
@@ -290,7 +306,7 @@ impl<S: Steady> Keeper for ProvedKeeper<S> {
         ensures because { HasCleanDisk (state S.Store self.new.conn) → (o : Office)
             → StandsForOffice (state S.Store self.old.conn).committed o → result ≡ Err Failed → WasRefused S.Store }
         ensures wrote { HasCleanDisk (state S.Store self.new.conn)
-            → OnOk result (CommitsRun S.Store (WritesDay kept.now rows.now) self.old.conn self.new.conn) }
+            → OnOk result (CommitsRun S.Store (day_texts kept.now rows.now) self.old.conn self.new.conn) }
         ensures told { HasCleanDisk (state S.Store self.new.conn)
             → IfErr result (λ fault. TellsRefusal S.Store (WritesDay kept.now rows.now) self.old.conn
             self.new.conn fault self.old.refused self.new.refused) }
@@ -333,7 +349,7 @@ impl<S: Steady> Keeper for ProvedKeeper<S> {
         ensures because { HasCleanDisk (state S.Store self.new.conn) → (o : Office)
             → StandsForOffice (state S.Store self.old.conn).committed o → result ≡ Err Failed → WasRefused S.Store }
         ensures wrote { HasCleanDisk (state S.Store self.new.conn)
-            → OnOk result (CommitsRun S.Store (WritesPast kept.now rows.now) self.old.conn self.new.conn) }
+            → OnOk result (CommitsRun S.Store (past_texts kept.now rows.now) self.old.conn self.new.conn) }
         ensures told { HasCleanDisk (state S.Store self.new.conn)
             → IfErr result (λ fault. TellsRefusal S.Store (WritesPast kept.now rows.now) self.old.conn
             self.new.conn fault self.old.refused self.new.refused) }
@@ -376,7 +392,7 @@ impl<S: Steady> Keeper for ProvedKeeper<S> {
         ensures because { HasCleanDisk (state S.Store self.new.conn) → (o : Office)
             → StandsForOffice (state S.Store self.old.conn).committed o → result ≡ Err Failed → WasRefused S.Store }
         ensures wrote { HasCleanDisk (state S.Store self.new.conn)
-            → OnOk result (CommitsRun S.Store (WritesTariff xway tariff.now) self.old.conn self.new.conn) }
+            → OnOk result (CommitsRun S.Store (tariff_texts xway tariff.now) self.old.conn self.new.conn) }
         ensures told { HasCleanDisk (state S.Store self.new.conn)
             → IfErr result (λ fault. TellsRefusal S.Store (WritesTariff xway tariff.now) self.old.conn
             self.new.conn fault self.old.refused self.new.refused) }

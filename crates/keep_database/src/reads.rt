@@ -10,6 +10,8 @@ ghost use Rattle.keep_tables.specs.Stands.{HasOffice};
 ghost use Rattle.keep_writes.specs.Causes.{WasRefusedIn, LackedMemory};
 ghost use Rattle.keep_database.specs.Gives.{GivesUnless, WantsMemory};
 ghost use Rattle.keep_database.specs.Looks.{IsSealed};
+ghost use Rattle.keep_database.specs.Shows.{ShowsDay, ShowsLast, ShowsPast, ShowsRows, ShowsSpent, ShowsTariffs};
+ghost use Rattle.keep_database.specs.Shows.{ShowsVehicleRows};
 
 use crate::answers::{amount_in, amounts_of, day_of, last_of, past_of, tariffs_of};
 use crate::looks::look;
@@ -28,6 +30,7 @@ pub fn last_day<S: Alter>(conn: &mut Connection<S>) -> Result<u32, KeepFault>
     ensures memory { HasCleanDisk (state S.Store conn.new) → (o : Office)
         → HasOffice (state S.Store conn.old).committed o → result ≡ Err NoMemory
         → WantsMemory S.Store conn.old conn.new (IsSome o.past) }
+    ensures shows { HasCleanDisk (state S.Store conn.new) → IfOk result (λ last. ShowsLast S.Store conn.old last) }
     ensures open { HasCleanDisk (state S.Store conn.new) → OnOk result (IsTrue (state S.Store conn.new).is_open) }
     ensures survives { Survives (state S.Store conn.old) (state S.Store conn.new) (λ _. ⊥) }
 {
@@ -52,6 +55,7 @@ pub fn day<S: Alter>(conn: &mut Connection<S>, day: u32) -> Result<Option<DayRec
         → WantsMemory S.Store conn.old conn.new (IsSome (record_of o day)) }
     ensures sealed { HasCleanDisk (state S.Store conn.new)
         → IfOk result (λ kept. IfSome kept (λ r. IsSealed S.Store day conn.old)) }
+    ensures shows { HasCleanDisk (state S.Store conn.new) → IfOk result (λ kept. ShowsDay S.Store day conn.old kept) }
     ensures open { HasCleanDisk (state S.Store conn.new) → OnOk result (IsTrue (state S.Store conn.new).is_open) }
     ensures survives { Survives (state S.Store conn.old) (state S.Store conn.new) (λ _. ⊥) }
 {
@@ -79,6 +83,7 @@ pub fn past<S: Alter>(conn: &mut Connection<S>) -> Result<Option<PastRecord>, Ke
         → HasOffice (state S.Store conn.old).committed o → result ≡ Err NoMemory
         → WantsMemory S.Store conn.old conn.new (IsSome o.past) }
     ensures based { IfOk result (λ p. IfSome p (λ q. 70 ≤ q.base)) }
+    ensures shows { HasCleanDisk (state S.Store conn.new) → IfOk result (λ past. ShowsPast S.Store conn.old past) }
     ensures open { HasCleanDisk (state S.Store conn.new) → OnOk result (IsTrue (state S.Store conn.new).is_open) }
     ensures survives { Survives (state S.Store conn.old) (state S.Store conn.new) (λ _. ⊥) }
 {
@@ -104,6 +109,8 @@ pub fn spent<S: Alter>(
         → GivesUnless (WasRefusedIn S.Store conn.old conn.new) (λ x. x) result (paid o.rows day vid xway) }
     ensures memory { HasCleanDisk (state S.Store conn.new) → result ≡ Err NoMemory
         → LackedMemory S.Store conn.old conn.new }
+    ensures shows { HasCleanDisk (state S.Store conn.new)
+        → IfOk result (λ tolls. ShowsSpent S.Store day vid xway conn.old tolls) }
     ensures open { HasCleanDisk (state S.Store conn.new) → OnOk result (IsTrue (state S.Store conn.new).is_open) }
     ensures survives { Survives (state S.Store conn.old) (state S.Store conn.new) (λ _. ⊥) }
 {
@@ -131,6 +138,8 @@ pub fn rows<S: Alter>(
         → HasOffice (state S.Store conn.old).committed o → result ≡ Err NoMemory
         → WantsMemory S.Store conn.old conn.new (rows_between o from to ≢ []) }
     ensures rise { IfOk result (λ v. RowsRise v.items) }
+    ensures shows { HasCleanDisk (state S.Store conn.new)
+        → IfOk result (λ v. ShowsRows S.Store from to conn.old v.items) }
     ensures open { HasCleanDisk (state S.Store conn.new) → OnOk result (IsTrue (state S.Store conn.new).is_open) }
     ensures survives { Survives (state S.Store conn.old) (state S.Store conn.new) (λ _. ⊥) }
 {
@@ -160,6 +169,8 @@ pub fn vehicle_rows<S: Alter>(
         → HasOffice (state S.Store conn.old).committed o → result ≡ Err NoMemory
         → WantsMemory S.Store conn.old conn.new (vehicle_rows_between o vid from to ≢ []) }
     ensures rise { IfOk result (λ v. RowsRise v.items) }
+    ensures shows { HasCleanDisk (state S.Store conn.new)
+        → IfOk result (λ v. ShowsVehicleRows S.Store vid from to conn.old v.items) }
     ensures open { HasCleanDisk (state S.Store conn.new) → OnOk result (IsTrue (state S.Store conn.new).is_open) }
     ensures survives { Survives (state S.Store conn.old) (state S.Store conn.new) (λ _. ⊥) }
 {
@@ -181,6 +192,8 @@ pub fn tariffs<S: Alter>(conn: &mut Connection<S>, alloc: Global) -> Result<Tari
     ensures memory { HasCleanDisk (state S.Store conn.new) → (o : Office)
         → HasOffice (state S.Store conn.old).committed o → result ≡ Err NoMemory
         → WantsMemory S.Store conn.old conn.new (o.tariffs ≢ []) }
+    ensures shows { HasCleanDisk (state S.Store conn.new)
+        → IfOk result (λ tariffs. ShowsTariffs S.Store conn.old tariffs) }
     ensures open { HasCleanDisk (state S.Store conn.new) → OnOk result (IsTrue (state S.Store conn.new).is_open) }
     ensures survives { Survives (state S.Store conn.old) (state S.Store conn.new) (λ _. ⊥) }
 {

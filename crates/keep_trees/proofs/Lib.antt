@@ -11,6 +11,7 @@ pub mod PastFound
 pub mod WantedLaws
 pub mod DayFound
 pub mod TariffsFound
+pub mod TariffsTold
 pub mod ListLaws
 pub mod ResultLaws
 pub mod ListingLaws

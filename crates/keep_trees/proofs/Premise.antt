@@ -66,6 +66,21 @@ pub key_begins : {size : ℕ} {pages : PageMap} {roots : Roots} → roots_of siz
     → Names size our_trees pages 2 (Index plain) roots.spent_key
 key_begins are = record { shape_is = refl; root_is = ap (λ l. slice_index l 2) are }
 
+-- the days are in the first
+pub days_begins : {size : ℕ} {pages : PageMap} {roots : Roots} → roots_of size our_trees pages ≡ root_list roots
+    → Names size our_trees pages 0 Table roots.days
+days_begins are = record { shape_is = refl; root_is = ap (λ l. slice_index l 0) are }
+
+-- the history begins at the fourth
+pub past_begins : {size : ℕ} {pages : PageMap} {roots : Roots} → roots_of size our_trees pages ≡ root_list roots
+    → Names size our_trees pages 3 Table roots.past
+past_begins are = record { shape_is = refl; root_is = ap (λ l. slice_index l 3) are }
+
+-- the tariffs begin at the sixth
+pub tariffs_begin : {size : ℕ} {pages : PageMap} {roots : Roots} → roots_of size our_trees pages ≡ root_list roots
+    → Names size our_trees pages 5 Table roots.tariffs
+tariffs_begin are = record { shape_is = refl; root_is = ap (λ l. slice_index l 5) are }
+
 -- the version is in the last
 pub form_begins : {size : ℕ} {pages : PageMap} {roots : Roots} → roots_of size our_trees pages ≡ root_list roots
     → Names size our_trees pages 6 Table roots.form

@@ -82,11 +82,11 @@ grows xway (x ∷ ts) e up only =
     ]
 
 -- all expressways are before one
-abbrev AllBefore : Tariffs → ℕ → Type 0
+abbrev pub AllBefore : Tariffs → ℕ → Type 0
 AllBefore ts xway = AllByRecursion (λ (e : ℕ × Tariff). nat_cmp e.0 xway ≡ Less) ts
 
 -- a tariff after all others is put at the end
-at_end : (ts : Tariffs) (xway : ℕ) (t : Tariff) → AllBefore ts xway
+pub at_end : (ts : Tariffs) (xway : ℕ) (t : Tariff) → AllBefore ts xway
     → insert_entry nat_cmp ts xway t ≡ ts ++ (xway, t) ∷ []
 at_end [] xway t before = refl
 at_end (e ∷ ts) xway t before = rw (greater e.0 xway before.0) (ap (λ (l : Tariffs). e ∷ l) (at_end ts xway t before.1))

@@ -7,3 +7,4 @@ pub mod Rows
 pub mod Gives
 pub mod Days
 pub mod Own
+pub mod Tells

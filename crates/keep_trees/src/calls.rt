@@ -8,6 +8,7 @@ ghost use Rattle.keep_office.specs.Office.{vehicle_rows_between};
 ghost use Rattle.keep_trees.specs.Pages.{our_trees, root_list, StandForOffice, PagesStopped};
 ghost use Rattle.keep_trees.specs.Finds.{IsHeldAmount};
 ghost use Rattle.keep_trees.specs.Days.{IsToldSealed};
+ghost use Rattle.keep_trees.specs.Tells.{IsToldPast, IsToldLast, AreTold};
 ghost use Rattle.keep_trees.specs.Gives.{AnswersUnless, keep_fault_of};
 
 use crate::amounts::amount;
@@ -93,6 +94,10 @@ pub fn last_day<P: Pages>(pages: &mut P, hands: &mut Hands, roots: Roots) -> Res
     ensures gives { IsClean P.Pages pages.new → (o : Office)
         → StandForOffice (P.Pages.size pages.old) (P.Pages.pages pages.old) roots o
         → AnswersUnless (PagesStopped P.Pages pages.old pages.new) (λ last. last ≡ last_of o) result }
+    ensures told { IsClean P.Pages pages.new → IsDb (P.Pages.size pages.old) our_trees (P.Pages.pages pages.old)
+        → roots_of (P.Pages.size pages.old) our_trees (P.Pages.pages pages.old) ≡ root_list roots
+        → IfOk result (IsToldLast (trees_in (P.Pages.size pages.old) our_trees (P.Pages.pages pages.old) 0)
+        (trees_in (P.Pages.size pages.old) our_trees (P.Pages.pages pages.old) 3)) }
     ensures kept { Continues P.Pages pages.old pages.new }
     ensures pages { P.Pages.pages pages.new ≡ P.Pages.pages pages.old }
 {
@@ -135,6 +140,9 @@ pub fn past<P: Pages>(
         → StandForOffice (P.Pages.size pages.old) (P.Pages.pages pages.old) roots o
         → AnswersUnless (PagesStopped P.Pages pages.old pages.new) (λ past. past ≡ o.past) result }
     ensures based { IfOk result (λ past. IfSome past (λ q. 70 ≤ q.base)) }
+    ensures told { IsClean P.Pages pages.new → IsDb (P.Pages.size pages.old) our_trees (P.Pages.pages pages.old)
+        → roots_of (P.Pages.size pages.old) our_trees (P.Pages.pages pages.old) ≡ root_list roots
+        → IfOk result (IsToldPast (trees_in (P.Pages.size pages.old) our_trees (P.Pages.pages pages.old) 3)) }
     ensures kept { Continues P.Pages pages.old pages.new }
     ensures pages { P.Pages.pages pages.new ≡ P.Pages.pages pages.old }
 {
@@ -154,6 +162,9 @@ pub fn tariffs<P: Pages>(
     ensures gives { IsClean P.Pages pages.new → (o : Office)
         → StandForOffice (P.Pages.size pages.old) (P.Pages.pages pages.old) roots o
         → AnswersUnless (PagesStopped P.Pages pages.old pages.new) (λ tariffs. tariffs ≡ o.tariffs) result }
+    ensures told { IsClean P.Pages pages.new → IsDb (P.Pages.size pages.old) our_trees (P.Pages.pages pages.old)
+        → roots_of (P.Pages.size pages.old) our_trees (P.Pages.pages pages.old) ≡ root_list roots
+        → IfOk result (AreTold (trees_in (P.Pages.size pages.old) our_trees (P.Pages.pages pages.old) 5)) }
     ensures kept { Continues P.Pages pages.old pages.new }
     ensures pages { P.Pages.pages pages.new ≡ P.Pages.pages pages.old }
 {

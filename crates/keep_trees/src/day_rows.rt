@@ -11,6 +11,7 @@ ghost use Rattle.keep_tables.specs.Codec.{day_row};
 ghost use Rattle.keep_tables.specs.Stands.{FitsDay};
 ghost use Rattle.keep_trees.specs.Pages.{our_trees, root_list, StandForOffice};
 ghost use Rattle.keep_trees.specs.Days.{TellsDay, IsLastDay, IsToldSealed};
+ghost use Rattle.keep_trees.specs.Tells.{IsLastRow, IsToldLast};
 
 use crate::finds::find_row;
 use crate::hands::Hands;
@@ -134,6 +135,9 @@ fn greatest_day<P: Pages>(
     ensures done { IsClean P.Pages pages.new → (o : Office)
         → StandForOffice (P.Pages.size pages.old) (P.Pages.pages pages.old) roots o
         → MatchResult result (IsLastDay o.days) (FailsFor P.Pages pages.old pages.new ⊥) }
+    ensures last { IsClean P.Pages pages.new → IsDb (P.Pages.size pages.old) our_trees (P.Pages.pages pages.old)
+        → roots_of (P.Pages.size pages.old) our_trees (P.Pages.pages pages.old) ≡ root_list roots
+        → IfOk result (IsLastRow (trees_in (P.Pages.size pages.old) our_trees (P.Pages.pages pages.old) 0)) }
     ensures kept { Continues P.Pages pages.old pages.new }
     ensures pages { P.Pages.pages pages.new ≡ P.Pages.pages pages.old }
 {
@@ -156,6 +160,10 @@ pub fn greatest<P: Pages>(pages: &mut P, hands: &mut Hands, roots: Roots) -> Res
     ensures done { IsClean P.Pages pages.new → (o : Office)
         → StandForOffice (P.Pages.size pages.old) (P.Pages.pages pages.old) roots o
         → MatchResult result (λ last. last ≡ last_day o) (FailsFor P.Pages pages.old pages.new ⊥) }
+    ensures told { IsClean P.Pages pages.new → IsDb (P.Pages.size pages.old) our_trees (P.Pages.pages pages.old)
+        → roots_of (P.Pages.size pages.old) our_trees (P.Pages.pages pages.old) ≡ root_list roots
+        → IfOk result (IsToldLast (trees_in (P.Pages.size pages.old) our_trees (P.Pages.pages pages.old) 0)
+        (trees_in (P.Pages.size pages.old) our_trees (P.Pages.pages pages.old) 3)) }
     ensures kept { Continues P.Pages pages.old pages.new }
     ensures pages { P.Pages.pages pages.new ≡ P.Pages.pages pages.old }
 {

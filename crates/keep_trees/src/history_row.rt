@@ -5,7 +5,9 @@ ghost use Rattle.keep_office.specs.declared.kept.PastRecord.{PastRecord as Histo
 ghost use Rattle.keep_office.specs.Office.{Office};
 ghost use Rattle.keep_tables.specs.Codec.{past_row};
 ghost use Rattle.keep_tables.specs.Stands.{FitsPast};
-ghost use Rattle.keep_trees.specs.Pages.{StandForOffice};
+ghost use Rattle.sqlite_store.specs.Db.{IsDb, roots_of, trees_in};
+ghost use Rattle.keep_trees.specs.Pages.{our_trees, root_list, StandForOffice};
+ghost use Rattle.keep_trees.specs.Tells.{HasPast, IsToldPast};
 
 use crate::finds::find_row;
 use crate::hands::Hands;
@@ -20,6 +22,7 @@ fn history_of(row: &Row) -> Result<PastRecord, Error>
     ensures gives { (p : History) → FitsPast p → 70 ≤ p.base → row.now ≡ past_row p
         → MatchResult result (λ q. q ≡ p) (λ e. ⊥) }
     ensures based { IfOk result (λ q. 70 ≤ q.base) }
+    ensures reads { IfOk result (HasPast row.now) }
 {
     let base = number_32(row, 2)?;
     let digest = digest_at(row, 3)?;
@@ -46,6 +49,9 @@ pub fn history<P: Pages>(
         → StandForOffice (P.Pages.size pages.old) (P.Pages.pages pages.old) roots o
         → MatchResult result (λ past. past ≡ o.past) (FailsFor P.Pages pages.old pages.new ⊥) }
     ensures based { IfOk result (λ past. IfSome past (λ q. 70 ≤ q.base)) }
+    ensures told { IsClean P.Pages pages.new → IsDb (P.Pages.size pages.old) our_trees (P.Pages.pages pages.old)
+        → roots_of (P.Pages.size pages.old) our_trees (P.Pages.pages pages.old) ≡ root_list roots
+        → IfOk result (IsToldPast (trees_in (P.Pages.size pages.old) our_trees (P.Pages.pages pages.old) 3)) }
     ensures kept { Continues P.Pages pages.old pages.new }
     ensures pages { P.Pages.pages pages.new ≡ P.Pages.pages pages.old }
 {

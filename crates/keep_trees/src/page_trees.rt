@@ -10,6 +10,7 @@ ghost use Rattle.keep_trees.specs.Pages.{our_trees, root_list, HoldOffice, Lists
 ghost use Rattle.keep_trees.specs.Pages.{StandForOffice, PagesStopped};
 ghost use Rattle.keep_trees.specs.Finds.{IsHeldAmount};
 ghost use Rattle.keep_trees.specs.Days.{IsToldSealed};
+ghost use Rattle.keep_trees.specs.Tells.{IsToldPast, IsToldLast, AreTold};
 ghost use Rattle.keep_trees.specs.Gives.{AnswersUnless};
 
 use crate::calls;
@@ -73,6 +74,12 @@ impl<P: Pages> PageTrees<P> {
             → StandForOffice (P.Pages.size self.old.pages) (P.Pages.pages self.old.pages) self.old.roots o
             → AnswersUnless (PagesStopped P.Pages self.old.pages self.new.pages)
             (λ last. last ≡ last_of o) result }
+        ensures told { IsClean P.Pages self.new.pages
+            → IsDb (P.Pages.size self.old.pages) our_trees (P.Pages.pages self.old.pages)
+            → roots_of (P.Pages.size self.old.pages) our_trees (P.Pages.pages self.old.pages) ≡ root_list self.old.roots
+            → IfOk result (IsToldLast (trees_in (P.Pages.size self.old.pages) our_trees
+            (P.Pages.pages self.old.pages) 0)
+            (trees_in (P.Pages.size self.old.pages) our_trees (P.Pages.pages self.old.pages) 3)) }
         ensures kept { Continues P.Pages self.old.pages self.new.pages }
         ensures same { (P.Pages.pages self.new.pages ≡ P.Pages.pages self.old.pages)
             × (self.new.roots ≡ self.old.roots) }
@@ -106,6 +113,11 @@ impl<P: Pages> PageTrees<P> {
             → AnswersUnless (PagesStopped P.Pages self.old.pages self.new.pages)
             (λ past. past ≡ o.past) result }
         ensures based { IfOk result (λ past. IfSome past (λ q. 70 ≤ q.base)) }
+        ensures told { IsClean P.Pages self.new.pages
+            → IsDb (P.Pages.size self.old.pages) our_trees (P.Pages.pages self.old.pages)
+            → roots_of (P.Pages.size self.old.pages) our_trees (P.Pages.pages self.old.pages) ≡ root_list self.old.roots
+            → IfOk result (IsToldPast (trees_in (P.Pages.size self.old.pages) our_trees
+            (P.Pages.pages self.old.pages) 3)) }
         ensures kept { Continues P.Pages self.old.pages self.new.pages }
         ensures same { (P.Pages.pages self.new.pages ≡ P.Pages.pages self.old.pages)
             × (self.new.roots ≡ self.old.roots) }
@@ -187,6 +199,11 @@ impl<P: Pages> PageTrees<P> {
             → StandForOffice (P.Pages.size self.old.pages) (P.Pages.pages self.old.pages) self.old.roots o
             → AnswersUnless (PagesStopped P.Pages self.old.pages self.new.pages)
             (λ tariffs. tariffs ≡ o.tariffs) result }
+        ensures told { IsClean P.Pages self.new.pages
+            → IsDb (P.Pages.size self.old.pages) our_trees (P.Pages.pages self.old.pages)
+            → roots_of (P.Pages.size self.old.pages) our_trees (P.Pages.pages self.old.pages) ≡ root_list self.old.roots
+            → IfOk result (AreTold (trees_in (P.Pages.size self.old.pages) our_trees
+            (P.Pages.pages self.old.pages) 5)) }
         ensures kept { Continues P.Pages self.old.pages self.new.pages }
         ensures same { (P.Pages.pages self.new.pages ≡ P.Pages.pages self.old.pages)
             × (self.new.roots ≡ self.old.roots) }

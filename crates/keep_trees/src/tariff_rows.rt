@@ -5,7 +5,9 @@ ghost use Rattle.road_time.specs.declared.tariff.Tariff.{Tariff as Fare};
 ghost use Rattle.road_time.specs.Rates.{IsTariff};
 ghost use Rattle.keep_office.specs.Office.{Office};
 ghost use Rattle.keep_tables.specs.Codec.{tariff_row};
-ghost use Rattle.keep_trees.specs.Pages.{StandForOffice};
+ghost use Rattle.sqlite_store.specs.Db.{IsDb, roots_of, trees_in};
+ghost use Rattle.keep_trees.specs.Pages.{our_trees, root_list, StandForOffice};
+ghost use Rattle.keep_trees.specs.Tells.{HasTariff, AreToldBelow, AreTold};
 ghost use Rattle.keep_trees.specs.Own.{tariffs_below};
 
 use crate::finds::find_row;
@@ -20,6 +22,7 @@ use std::alloc::Global;
 /// The tariff that a row is, which is valid.
 fn tariff_of(row: &Row) -> Result<Tariff, Error>
     ensures valid { IfOk result IsTariff }
+    ensures reads { IfOk result (HasTariff row.now) }
     ensures gives { (xway : ℕ) (t : Fare) → IsTariff t → row.now ≡ tariff_row (xway, t)
         → MatchResult result (λ own. own ≡ t) (λ e. ⊥) }
 {
@@ -55,6 +58,11 @@ fn add_tariff<P: Pages>(
         → tariffs.old ≡ tariffs_below xway o.tariffs
         → MatchResult result (λ _. tariffs.new ≡ tariffs_below (xway + 1) o.tariffs)
         (FailsFor P.Pages pages.old pages.new ⊥) }
+    ensures told { IsClean P.Pages pages.new → IsDb (P.Pages.size pages.old) our_trees (P.Pages.pages pages.old)
+        → roots_of (P.Pages.size pages.old) our_trees (P.Pages.pages pages.old) ≡ root_list roots
+        → AreToldBelow (trees_in (P.Pages.size pages.old) our_trees (P.Pages.pages pages.old) 5) xway tariffs.old
+        → IfOk result (λ _. AreToldBelow (trees_in (P.Pages.size pages.old) our_trees (P.Pages.pages pages.old) 5)
+        (xway + 1) tariffs.new) }
     ensures kept { Continues P.Pages pages.old pages.new }
     ensures pages { P.Pages.pages pages.new ≡ P.Pages.pages pages.old }
 {
@@ -86,6 +94,9 @@ pub fn own_tariffs<P: Pages>(
     ensures done { IsClean P.Pages pages.new → (o : Office)
         → StandForOffice (P.Pages.size pages.old) (P.Pages.pages pages.old) roots o
         → MatchResult result (λ tariffs. tariffs ≡ o.tariffs) (FailsFor P.Pages pages.old pages.new ⊥) }
+    ensures told { IsClean P.Pages pages.new → IsDb (P.Pages.size pages.old) our_trees (P.Pages.pages pages.old)
+        → roots_of (P.Pages.size pages.old) our_trees (P.Pages.pages pages.old) ≡ root_list roots
+        → IfOk result (AreTold (trees_in (P.Pages.size pages.old) our_trees (P.Pages.pages pages.old) 5)) }
     ensures kept { Continues P.Pages pages.old pages.new }
     ensures pages { P.Pages.pages pages.new ≡ P.Pages.pages pages.old }
 {

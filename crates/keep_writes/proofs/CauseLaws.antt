@@ -1,5 +1,5 @@
 -- What a failure says of a refusal.
-use Rattle.std.proofs.Common.{ℕ, ◌≡◌, ◌↔◌, inl, inr, true, List, [], Err, Ok, Result, IfOk, IfErr, OnOk, IsErrAnd, IsTrue}
+use Rattle.std.proofs.Common.{ℕ, ◌≡◌, ◌↔◌, inl, inr, true, List, [], ◌++◌, Err, Ok, Result, IfOk, IfErr, OnOk, IsErrAnd, IsTrue}
 use Rattle.std.proofs.Common.{refl, sym, subst, arith, ap, get_or}
 use Rattle.sqlite_value.specs.Order.{Row}
 use Rattle.sqlite_trees.specs.declared.store.Store.{Ghosts}
@@ -21,8 +21,8 @@ use Rattle.keep_writes.specs.Causes.{RefusedIn}
 use Rattle.keep_writes.specs.Causes.{WritesSome, WasRefusedOf, WasRefusedIn}
 use Rattle.keep_writes.specs.Causes.{WasRefused, HasCauseOf, HasCause}
 use Rattle.keep_writes.specs.Writes.{WritesNothing, WritesAny}
-use Rattle.keep_writes.specs.Runs.{SeesAs, RanOne, Ran}
-use Rattle.keep_writes.proofs.RunLaws.{ran_none, ran_once, ran_then, ran_wider, ran_after, on_wider, ran_begun}
+use Rattle.keep_writes.specs.Runs.{RanAll, Ran}
+use Rattle.keep_writes.proofs.RunLaws.{ran_none, ran_then, ran_wider, ran_after, on_wider, ran_begun, all_then}
 
 pub ok_then : {T E : Type 0} (r : Result T E) (P Q : T → Type 0) → IfOk r P → ((x : T) → P x → Q x) → IfOk r Q
 ok_then (Ok x) P Q p f = f x p
@@ -197,14 +197,6 @@ module _ {S : Type 0} (g : Ghosts S) where
     left = survives_self (state g new);
   }
 
-  -- or it ran
-  pub text_ran : (W : List ℕ → Row → Type 0) (old new : Held S) (sql : List ℕ) (params : Row) (count : ℕ) → W sql params →
-      IsTrue (state g old).in_transaction → ExecutesInside 0 sql params (state g old) (state g new) (Ok count) →
-      Ran g W old new
-  text_ran W old new sql params count written inside ran =
-      ran_once g W old new
-      (record { sql = sql; params = params; count = count; written = written; inside = inside; ran = ran })
-
   -- what is refused within a transaction of a call that writes less is refused of one that writes more
   pub inside_wider : (V W : List ℕ → Row → Type 0) →
       ((sql : List ℕ) (params : Row) → V sql params → W sql params) → (old new : Held S) (e : Error) →
@@ -256,14 +248,12 @@ module _ {S : Type 0} (g : Ghosts S) where
       (λ e it. inside_after old mid new e ran (kept_inside (state g old) (state g mid) inside) survives
       (inside_wider V W more mid new e it))
 
-  -- texts of a call that ran, and then some of another where both are of one that writes more
-  pub both_ran : {T : Type 0} (U V W : List ℕ → Row → Type 0) →
-      ((sql : List ℕ) (params : Row) → U sql params → W sql params) →
-      ((sql : List ℕ) (params : Row) → V sql params → W sql params) → (old mid new : Held S) (r : Result T Error) →
-      Ran g U old mid → OnOk r (Ran g V mid new) → OnOk r (Ran g W old new)
-  both_ran U V W first second old mid new r ran h =
-      on_then r (Ran g V mid new) (Ran g W old new) h
-      (λ it. ran_then g W old mid new (ran_wider g U W first old mid ran) (ran_wider g V W second mid new it))
+  -- texts of a call ran, and then some more
+  pub both_ran : {T : Type 0} (texts more : List (List ℕ × Row)) (old mid new : Held S) (r : Result T Error) →
+      RanAll g texts old mid → OnOk r (RanAll g more mid new) → OnOk r (RanAll g (texts ++ more) old new)
+  both_ran texts more old mid new r ran h =
+      on_then r (RanAll g more mid new) (RanAll g (texts ++ more) old new) h
+      (λ it. all_then g texts more old mid new ran it)
 
   -- a text was refused in a transaction that began with the call, where nothing was under way
   pub refused_begun : {W : List ℕ → Row → Type 0} (old last new : Held S) (e : Error) →

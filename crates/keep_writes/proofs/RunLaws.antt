@@ -1,10 +1,14 @@
 -- What texts did that ran one after another.
-use Rattle.std.proofs.Common.{◌≡◌, ℕ, zero, suc, true, List, Ok, IsTrue, refl, ◌∙◌}
+use Rattle.std.proofs.Common.{◌≡◌, ℕ, zero, suc, true, List, [], ◌∷◌, ◌++◌, map, Ok, IsTrue, refl, sym, subst, subst₂, ◌∙◌}
+use Rattle.std.specs.List.{AllByRecursion}
+use Rattle.std.proofs.lemmas.List.{map-append}
 use Rattle.sqlite_value.specs.Order.{Row}
+use Rattle.road_time.specs.declared.day.SpentRow.{SpentRow}
 use Rattle.sqlite_trees.specs.declared.store.Store.{Ghosts}
 use Rattle.sqlite.specs.Held.{Held, state}
-use Rattle.sqlite.specs.State.{State, KeepsCommit}
-use Rattle.keep_writes.specs.Runs.{SeesAs, SeesCommit, RanOne, RanSo, Ran, RanOn, CommitsRun}
+use Rattle.sqlite.specs.State.{State, ExecutesInside, KeepsCommit}
+use Rattle.keep_writes.specs.Runs.{SeesAs, SeesCommit, RanOne, IsText, RanAll, RanSo, Ran, RanOn, CommitsRun}
+use Rattle.keep_writes.specs.Writes.{amount_text}
 
 -- a connection shows what it shows
 pub sees_self : (s : State) → SeesAs s s
@@ -105,11 +109,91 @@ module _ {S : Type 0} (g : Ghosts S) where
     ran = ran;
   }
 
+  -- none ran yet
+  pub all_none : (old : Held S) → RanAll g [] old old
+  all_none old = sees_self (state g old)
+
+  -- one is the first of some
+  pub all_first : (old mid new : Held S) (text : List ℕ × Row) (texts : List (List ℕ × Row)) →
+      RanOne g (IsText text) old mid → RanAll g texts mid new → RanAll g (text ∷ texts) old new
+  all_first old mid new text texts one more = (old, mid, sees_self (state g old), one, more)
+
+  -- one ran alone
+  pub all_once : (old new : Held S) (sql : List ℕ) (params : Row) (count : ℕ) → IsTrue (state g old).in_transaction →
+      ExecutesInside 0 sql params (state g old) (state g new) (Ok count) → RanAll g ((sql, params) ∷ []) old new
+  all_once old new sql params count inside ran =
+      all_first old new new (sql, params) []
+      (record { sql = sql; params = params; count = count; written = (refl, refl); inside = inside; ran = ran })
+      (all_none new)
+
+  -- some ran, before which nothing was changed
+  all_behind : (texts : List (List ℕ × Row)) (old mid new : Held S) → SeesAs (state g old) (state g mid) →
+      RanAll g texts mid new → RanAll g texts old new
+  all_behind [] old mid new sees ran = sees_then (state g old) (state g mid) (state g new) sees ran
+  all_behind (text ∷ texts) old mid new sees (a, b, first, one, more) =
+      (a, b, sees_then (state g old) (state g mid) (state g a) sees first, one, more)
+
+  -- some ran, and then some more
+  pub all_then : (texts more : List (List ℕ × Row)) (old mid new : Held S) → RanAll g texts old mid →
+      RanAll g more mid new → RanAll g (texts ++ more) old new
+  all_then [] more old mid new sees ran = all_behind more old mid new sees ran
+  all_then (text ∷ texts) more old mid new (a, b, first, one, rest) ran =
+      (a, b, first, one, all_then texts more b mid new rest ran)
+
+  -- where all of some texts ran, some of a call ran that writes each of them
+  pub ran_of : (writes : List ℕ → Row → Type 0) → (texts : List (List ℕ × Row)) →
+      AllByRecursion (λ t. writes t.0 t.1) texts → (old new : Held S) → RanAll g texts old new → Ran g writes old new
+  ran_of writes [] all old new sees = (0, sees)
+  ran_of writes (text ∷ texts) all old new (a, b, first, one, rest) =
+      ran_then writes old b new (
+        1,
+        (
+          a,
+          b,
+          first,
+          record {
+            sql = text.0;
+            params = text.1;
+            count = one.count;
+            written = all.0;
+            inside = one.inside;
+            ran = subst₂ (λ (sql : List ℕ) (params : Row).
+                ExecutesInside 0 sql params (state g a) (state g b) (Ok one.count)) one.written.0 one.written.1 one.ran;
+          },
+          sees_self (state g b),
+        ),
+      )
+      (ran_of writes texts all.1 b new rest)
+
+  -- one more amount was put
+  pub amounts_next : (rows : List SpentRow) (row : SpentRow) (old mid new : Held S) →
+      RanAll g (map amount_text rows) old mid → RanAll g (amount_text row ∷ []) mid new →
+      RanAll g (map amount_text (rows ++ row ∷ [])) old new
+  amounts_next rows row old mid new so_far one =
+      subst (λ (l : List (List ℕ × Row)). RanAll g l old new) (sym (map-append amount_text rows (row ∷ [])))
+      (all_then (map amount_text rows) (amount_text row ∷ []) old mid new so_far one)
+
+  -- what is committed of a transaction that began with the call, where nothing was under way
+  pub commits_begun : (texts : List (List ℕ × Row)) (old last new : Held S) →
+      (IsTrue (state g old).is_open → (state g old).now ≡ (state g old).committed) →
+      RanAll g texts (record old { in_transaction = true }) last → (state g new).committed ≡ (state g last).now →
+      CommitsRun g texts old new
+  commits_begun texts old last new settled ran committed = record {
+    start = record old { in_transaction = true };
+    last = last;
+    found = λ here. (here, settled here);
+    ran = ran;
+    committed = committed;
+  }
+
   -- what a call commits that began with a step that commits nothing
-  pub commits_after : (writes : List ℕ → Row → Type 0) → (old mid new : Held S) →
-      KeepsCommit (state g old) (state g mid) → CommitsRun g writes mid new → CommitsRun g writes old new
-  commits_after writes old mid new kept it = record {
+  pub commits_after : (texts : List (List ℕ × Row)) (old mid new : Held S) → KeepsCommit (state g old) (state g mid) →
+      CommitsRun g texts mid new → CommitsRun g texts old new
+  commits_after texts old mid new kept it = record {
+    start = it.start;
     last = it.last;
-    ran = ran_after writes old mid it.last kept it.ran;
+    found = λ here.
+        let shown = it.found here in (kept.was_open shown.0, shown.1 ∙ kept.committed shown.0);
+    ran = it.ran;
     committed = it.committed;
   }

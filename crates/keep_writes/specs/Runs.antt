@@ -1,5 +1,5 @@
--- What the texts of a call did within its transaction, before one of them was refused.
-use Rattle.std.specs.Prelude.{◌≡◌, ℕ, zero, suc, List, Ok, IsTrue}
+-- What the texts of a call did within its transaction.
+use Rattle.std.specs.Prelude.{◌≡◌, ℕ, zero, suc, List, [], ◌∷◌, Ok, IsTrue}
 use Rattle.sqlite_value.specs.Order.{Row}
 use Rattle.sqlite_trees.specs.declared.store.Store.{Ghosts}
 use Rattle.sqlite.specs.Held.{Held, state}
@@ -17,6 +17,17 @@ pub record RanOne {S : Type 0} (g : Ghosts S) (writes : List ℕ → Row → Typ
   pub written : writes sql params
   pub inside : IsTrue (state g old).in_transaction
   pub ran : ExecutesInside 0 sql params (state g old) (state g new) (Ok count)
+
+-- a text is that one, with those values
+abbrev pub IsText : List ℕ × Row → List ℕ → Row → Type 0
+IsText text sql params = (sql ≡ text.0) × (params ≡ text.1)
+
+-- each of these texts ran once with its values, in this order, and nothing else was changed
+abbrev pub RanAll : {S : Type 0} → Ghosts S → List (List ℕ × Row) → Held S → Held S → Type 0
+RanAll g [] old new = SeesAs (state g old) (state g new)
+RanAll {S} g (text ∷ texts) old new =
+    (mid : Held S) × (last : Held S) × SeesAs (state g old) (state g mid) × RanOne g (IsText text) mid last
+    × RanAll g texts last new
 
 -- so many ran, one after another, and nothing else was changed
 abbrev pub RanSo : {S : Type 0} → Ghosts S → (List ℕ → Row → Type 0) → ℕ → Held S → Held S → Type 0
@@ -39,8 +50,10 @@ pub record RanOn {S : Type 0} (g : Ghosts S) (writes : List ℕ → Row → Type
   pub found : SeesCommit (state g old) (state g start)
   pub ran : Ran g writes start before
 
--- what is committed is what texts of a call made of what was committed before it
-pub record CommitsRun {S : Type 0} (g : Ghosts S) (writes : List ℕ → Row → Type 0) (old new : Held S) : Type 0 where
+-- what is committed is what all of these texts, in their order, made of what was committed before
+pub record CommitsRun {S : Type 0} (g : Ghosts S) (texts : List (List ℕ × Row)) (old new : Held S) : Type 0 where
+  pub start : Held S
   pub last : Held S
-  pub ran : RanOn g writes old last
+  pub found : SeesCommit (state g old) (state g start)
+  pub ran : RanAll g texts start last
   pub committed : (state g new).committed ≡ (state g last).now

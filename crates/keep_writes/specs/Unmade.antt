@@ -1,6 +1,7 @@
 -- Why the tables of an office could not be made.
-use Rattle.std.specs.Prelude.{◌≡◌, ◌≢◌, ◌⊎◌, ◌<◌, ℕ, pos, Bool, true, false, List, [], ◌∷◌, ◌++◌, length}
+use Rattle.std.specs.Prelude.{◌≡◌, ◌≢◌, ◌⊎◌, ℕ, pos, Bool, true, false, List, [], ◌∷◌, ◌++◌, map, take}
 use Rattle.std.specs.Prelude.{Some, None, Option, slice_get, Err, IsTrue}
+use Rattle.std.specs.List.{AllByRecursion}
 use Rattle.sqlite_value.specs.declared.value.Value.TheVariants.{Int, Blob}
 use Rattle.sqlite_value.specs.Order.{Row, column}
 use Rattle.sqlite_trees.specs.declared.store.Store.{Ghosts}
@@ -20,19 +21,18 @@ use Rattle.keep_tables.specs.Texts.{make_tariffs, make_form, put_version, put_se
 use Rattle.keep_writes.specs.Causes.{IsOneOf}
 use Rattle.keep_writes.specs.Growth.{IsUnderstood, SaysIf}
 use Rattle.keep_writes.specs.Objects.{list_texts, Lists, texts_of}
-use Rattle.keep_writes.specs.Runs.{SeesAs, SeesCommit, RanOne, Ran}
-use Rattle.keep_writes.specs.Writes.{WritesSeal}
+use Rattle.keep_writes.specs.Runs.{SeesCommit, RanOne, IsText, RanAll}
 
 -- the texts of the tables of version 1, in their order
-abbrev pub old_texts : List (List ℕ)
-old_texts = make_days ∷ make_spent ∷ make_past ∷ []
+abbrev pub old_texts : List (List ℕ × Row)
+old_texts = (make_days, []) ∷ (make_spent, []) ∷ (make_past, []) ∷ []
 
 -- those of the tables that version 2 has more
-abbrev pub new_texts : List (List ℕ)
-new_texts = make_day_tariffs ∷ make_tariffs ∷ make_form ∷ []
+abbrev pub new_texts : List (List ℕ × Row)
+new_texts = (make_day_tariffs, []) ∷ (make_tariffs, []) ∷ (make_form, []) ∷ []
 
 -- those of the tables that lack, by whether those of version 1 are there
-abbrev pub lacking_texts : Bool → List (List ℕ)
+abbrev pub lacking_texts : Bool → List (List ℕ × Row)
 lacking_texts true = new_texts
 lacking_texts false = old_texts ++ new_texts
 
@@ -57,36 +57,28 @@ ListsOthers before e =
     × SaysIf is_old (IsUnderstood (understood before.committed.schema list_days)) × (rows : List Row)
     × Lists before.committed rows × (rows ≢ texts_of is_old) × (e ≡ SqliteFailure NotADatabase)
 
--- a text is that one, and has no values
-abbrev pub IsText : List ℕ → List ℕ → Row → Type 0
-IsText text sql params = (sql ≡ text) × (params ≡ [])
-
--- within a transaction each of these texts ran once, in this order, and nothing else was changed
-abbrev pub RanEach : {S : Type 0} → Ghosts S → List (List ℕ) → Held S → Held S → Type 0
-RanEach g [] old new = SeesAs (state g old) (state g new)
-RanEach {S} g (text ∷ texts) old new =
-    (mid : Held S) × (last : Held S) × SeesAs (state g old) (state g mid) × RanOne g (IsText text) mid last
-    × RanEach g texts last new
-
--- one of them was refused behind those before it
-pub record RefusesEach {S : Type 0} (g : Ghosts S) (texts : List (List ℕ)) (old before after : Held S) (error : Error) :
+-- within a transaction one of these texts was refused behind those before it
+pub record RefusesEach {S : Type 0} (g : Ghosts S) (texts : List (List ℕ × Row)) (old before after : Held S) (error : Error) :
     Type 0 where
-  pub done : List (List ℕ)
-  pub text : List ℕ
-  pub rest : List (List ℕ)
+  pub done : List (List ℕ × Row)
+  pub text : List ℕ × Row
+  pub rest : List (List ℕ × Row)
   pub is : texts ≡ done ++ text ∷ rest
-  pub ran : RanEach g done old before
-  pub refused : ExecutesInside 0 text [] (state g before) (state g after) (Err error)
+  pub ran : RanAll g done old before
+  pub refused : ExecutesInside 0 text.0 text.1 (state g before) (state g after) (Err error)
 
--- the seal of one of the first so many days
-pub record WritesSeals (seal : Digest) (rows : List Row) (count : ℕ) (sql : List ℕ) (params : Row) : Type 0 where
-  pub place : ℕ
-  pub below : place < count
-  pub row : Row
-  pub day : ℕ
-  pub is_one : slice_get rows place ≡ Some row
-  pub number : column row 0 ≡ Int (pos day)
-  pub is_put : WritesSeal day seal sql params
+-- a row has the number of a day
+abbrev pub HasNumber : Row → Type 0
+HasNumber row = (day : ℕ) × (column row 0 ≡ Int (pos day))
+
+-- the seal of the day in a row
+abbrev pub row_seal : Digest → Row → List ℕ × Row
+row_seal seal row = (put_seal, column row 0 ∷ Blob seal.bytes ∷ [])
+
+-- each of some days was sealed
+pub record SealsEach {S : Type 0} (g : Ghosts S) (seal : Digest) (rows : List Row) (old new : Held S) : Type 0 where
+  pub numbered : AllByRecursion HasNumber rows
+  pub ran : RanAll g (map (row_seal seal) rows) old new
 
 -- a day has no number, or its seal was refused
 abbrev pub RefusesSeal : Digest → Row → State → State → Error → Type 0
@@ -94,37 +86,37 @@ RefusesSeal seal row before after e =
     IsReadError 0 (column row 0) e ⊎ ((day : ℕ) × (column row 0 ≡ Int (pos day))
     × ExecutesInside 0 put_seal (Int (pos day) ∷ Blob seal.bytes ∷ []) before after (Err e))
 
--- that is so of one of some days, of which only those before it may have been sealed
+-- that is so of one of some days, of which those before it were sealed
 pub record RefusesSeals {S : Type 0} (g : Ghosts S) (seal : Digest) (rows : List Row) (old before after : Held S)
     (error : Error) : Type 0 where
   pub place : ℕ
   pub row : Row
   pub is_one : slice_get rows place ≡ Some row
-  pub ran : Ran g (WritesSeals seal rows place) old before
+  pub ran : SealsEach g seal (take place rows) old before
   pub refused : RefusesSeal seal row (state g before) (state g after) error
 
 -- these texts ran, and then all days were shown
-pub record ShowsDays {S : Type 0} (g : Ghosts S) (texts : List (List ℕ)) (rows : List Row) (old listed : Held S) :
+pub record ShowsDays {S : Type 0} (g : Ghosts S) (texts : List (List ℕ × Row)) (rows : List Row) (old listed : Held S) :
     Type 0 where
   pub made : Held S
-  pub ran : RanEach g texts old made
+  pub ran : RanAll g texts old made
   pub shown : Shown list_days [] (state g made) (state g listed) rows
 
--- then these days were sealed
-pub record SealsDays {S : Type 0} (g : Ghosts S) (texts : List (List ℕ)) (old new : Held S) : Type 0 where
+-- then all of these days were sealed
+pub record SealsDays {S : Type 0} (g : Ghosts S) (texts : List (List ℕ × Row)) (old new : Held S) : Type 0 where
   pub rows : List Row
   pub listed : Held S
   pub shows : ShowsDays g texts rows old listed
-  pub ran : Ran g (WritesSeals (seal_of []) rows (length rows)) listed new
+  pub ran : SealsEach g (seal_of []) rows listed new
 
 -- then version 2 was put
-pub record MakesTables {S : Type 0} (g : Ghosts S) (texts : List (List ℕ)) (old new : Held S) : Type 0 where
+pub record MakesTables {S : Type 0} (g : Ghosts S) (texts : List (List ℕ × Row)) (old new : Held S) : Type 0 where
   pub last : Held S
   pub seals : SealsDays g texts old last
-  pub ran : RanOne g (IsText put_version) last new
+  pub ran : RanOne g (IsText (put_version, [])) last new
 
 -- behind these texts the seals failed: one of the days that were shown has no number, or its seal was refused
-pub record FailsToSeal {S : Type 0} (g : Ghosts S) (texts : List (List ℕ)) (old before after : Held S)
+pub record FailsToSeal {S : Type 0} (g : Ghosts S) (texts : List (List ℕ × Row)) (old before after : Held S)
     (error : Error) : Type 0 where
   pub rows : List Row
   pub listed : Held S
@@ -133,10 +125,10 @@ pub record FailsToSeal {S : Type 0} (g : Ghosts S) (texts : List (List ℕ)) (ol
 
 -- one of these texts was refused; or behind all of them there was no memory for a seal, all days were not shown, or the
 -- seals failed; or behind the seals version 2 was refused
-abbrev pub EndsTables : {S : Type 0} → Ghosts S → List (List ℕ) → Held S → Held S → Held S → Error → Type 0
+abbrev pub EndsTables : {S : Type 0} → Ghosts S → List (List ℕ × Row) → Held S → Held S → Held S → Error → Type 0
 EndsTables g texts old before after e =
     RefusesEach g texts old before after e
-    ⊎ ((RanEach g texts old before
+    ⊎ ((RanAll g texts old before
     × ((e ≡ SqliteFailure OutOfMemory) ⊎ FailsToQuery list_days [] (state g before) (state g after) e))
     ⊎ (FailsToSeal g texts old before after e
     ⊎ (SealsDays g texts old before × ExecutesInside 0 put_version [] (state g before) (state g after) (Err e))))

@@ -12,8 +12,8 @@ ghost use Rattle.keep_tables.specs.Stands.{Contents, Holds, HoldsAs, HasOffice, 
 ghost use Rattle.keep_tables.specs.Steps.{StaysInside};
 ghost use Rattle.keep_tables.specs.Texts.{put_seal as put_seal_text};
 ghost use Rattle.keep_writes.specs.Causes.{RefusedInside};
-ghost use Rattle.keep_writes.specs.Runs.{Ran};
-ghost use Rattle.keep_writes.specs.Writes.{WritesDay, WritesRecord, WritesSeal};
+ghost use Rattle.keep_writes.specs.Runs.{RanAll};
+ghost use Rattle.keep_writes.specs.Writes.{WritesDay, WritesRecord, WritesSeal, day_texts, record_text, seal_text};
 
 use crate::columns::{bytes_of, column};
 use crate::spent_writes::put_amounts;
@@ -42,7 +42,7 @@ pub fn write_day<S: Alter>(
         → IfErr result (RefusedInside S.Store (WritesDay kept.now rows.now) tx.old.conn.now tx.new.conn.now) }
     ensures ran { HasCleanDisk (state S.Store tx.new.conn.now)
         → IsTrue (state S.Store tx.old.conn.now).in_transaction
-        → OnOk result (Ran S.Store (WritesDay kept.now rows.now) tx.old.conn.now tx.new.conn.now) }
+        → OnOk result (RanAll S.Store (day_texts kept.now rows.now) tx.old.conn.now tx.new.conn.now) }
     ensures survives { Survives (state S.Store tx.old.conn.now) (state S.Store tx.new.conn.now) (λ _. ⊥) }
 {
     put_record(tx, kept)?;
@@ -73,7 +73,7 @@ pub fn put_record<S: Alter>(tx: &mut Transaction<'_, S>, kept: &DayRecord) -> Re
         → IfErr result (RefusedInside S.Store (WritesRecord kept.now) tx.old.conn.now tx.new.conn.now) }
     ensures ran { HasCleanDisk (state S.Store tx.new.conn.now)
         → IsTrue (state S.Store tx.old.conn.now).in_transaction
-        → OnOk result (Ran S.Store (WritesRecord kept.now) tx.old.conn.now tx.new.conn.now) }
+        → OnOk result (RanAll S.Store (record_text kept.now ∷ []) tx.old.conn.now tx.new.conn.now) }
     ensures survives { Survives (state S.Store tx.old.conn.now) (state S.Store tx.new.conn.now) (λ _. ⊥) }
 {
     let day = kept.day;
@@ -109,7 +109,7 @@ pub fn put_seal<S: Alter>(tx: &mut Transaction<'_, S>, day: u32, seal: &Digest) 
         → IfErr result (RefusedInside S.Store (WritesSeal day seal.now) tx.old.conn.now tx.new.conn.now) }
     ensures ran { HasCleanDisk (state S.Store tx.new.conn.now)
         → IsTrue (state S.Store tx.old.conn.now).in_transaction
-        → OnOk result (Ran S.Store (WritesSeal day seal.now) tx.old.conn.now tx.new.conn.now) }
+        → OnOk result (RanAll S.Store (seal_text day seal.now ∷ []) tx.old.conn.now tx.new.conn.now) }
     ensures text { HasCleanDisk (state S.Store tx.new.conn.now)
         → IsTrue (state S.Store tx.old.conn.now).in_transaction
         → IfErr result (λ e. ExecutesInside 0 put_seal_text (Int (pos day) ∷ Blob seal.now.bytes ∷ [])

@@ -1,5 +1,5 @@
 // The statements of a put of a history.
-ghost use Rattle.std.specs.Prelude.{◌≡◌, ◌<◌, ◌^◌, None, IsTrue, IfErr, OnOk};
+ghost use Rattle.std.specs.Prelude.{◌≡◌, ◌<◌, ◌^◌, [], ◌∷◌, None, IsTrue, IfErr, OnOk};
 ghost use Rattle.sqlite.specs.Held.{state};
 ghost use Rattle.sqlite.specs.State.{HasCleanDisk, Survives};
 ghost use Rattle.keep_office.specs.Office.{Office};
@@ -7,8 +7,8 @@ ghost use Rattle.keep_office.specs.Kept.{IsPastPut, HasNoDays, with_past};
 ghost use Rattle.keep_tables.specs.Stands.{Contents, Holds, HasOffice, FitsPast, with_history};
 ghost use Rattle.keep_tables.specs.Steps.{StaysInside};
 ghost use Rattle.keep_writes.specs.Causes.{RefusedInside};
-ghost use Rattle.keep_writes.specs.Runs.{Ran};
-ghost use Rattle.keep_writes.specs.Writes.{WritesPast, WritesHistory};
+ghost use Rattle.keep_writes.specs.Runs.{RanAll};
+ghost use Rattle.keep_writes.specs.Writes.{WritesPast, WritesHistory, history_text, past_texts};
 
 use crate::columns::{bytes_of, column};
 use crate::spent_writes::put_amounts;
@@ -36,7 +36,7 @@ pub fn write_past<S: Alter>(
         → IfErr result (RefusedInside S.Store (WritesPast kept.now rows.now) tx.old.conn.now tx.new.conn.now) }
     ensures ran { HasCleanDisk (state S.Store tx.new.conn.now)
         → IsTrue (state S.Store tx.old.conn.now).in_transaction
-        → OnOk result (Ran S.Store (WritesPast kept.now rows.now) tx.old.conn.now tx.new.conn.now) }
+        → OnOk result (RanAll S.Store (past_texts kept.now rows.now) tx.old.conn.now tx.new.conn.now) }
     ensures survives { Survives (state S.Store tx.old.conn.now) (state S.Store tx.new.conn.now) (λ _. ⊥) }
 {
     put_history(tx, kept)?;
@@ -61,7 +61,7 @@ fn put_history<S: Alter>(tx: &mut Transaction<'_, S>, kept: &PastRecord) -> Resu
         → IfErr result (RefusedInside S.Store (WritesHistory kept.now) tx.old.conn.now tx.new.conn.now) }
     ensures ran { HasCleanDisk (state S.Store tx.new.conn.now)
         → IsTrue (state S.Store tx.old.conn.now).in_transaction
-        → OnOk result (Ran S.Store (WritesHistory kept.now) tx.old.conn.now tx.new.conn.now) }
+        → OnOk result (RanAll S.Store (history_text kept.now ∷ []) tx.old.conn.now tx.new.conn.now) }
     ensures survives { Survives (state S.Store tx.old.conn.now) (state S.Store tx.new.conn.now) (λ _. ⊥) }
 {
     let base = kept.base;

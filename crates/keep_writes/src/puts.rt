@@ -13,7 +13,7 @@ ghost use Rattle.keep_tables.specs.Steps.{CommitsFor, CommitsNow, FitsAny};
 ghost use Rattle.keep_writes.specs.Causes.{RefusedOf, HasCauseOf, IsTold};
 ghost use Rattle.keep_writes.specs.Runs.{CommitsRun};
 ghost use Rattle.keep_writes.specs.Unmade.{SeesCommitted};
-ghost use Rattle.keep_writes.specs.Writes.{WritesDay, WritesPast, WritesTariff};
+ghost use Rattle.keep_writes.specs.Writes.{WritesDay, WritesPast, WritesTariff, day_texts, past_texts, tariff_texts};
 
 use crate::day_writes::write_day;
 use crate::past_writes::write_past;
@@ -41,7 +41,7 @@ pub fn put_day<S: Alter>(
     ensures why { HasCleanDisk (state S.Store conn.new)
         → IfErr result (HasCauseOf S.Store (WritesDay kept.now rows.now) conn.old conn.new) }
     ensures wrote { HasCleanDisk (state S.Store conn.new)
-        → OnOk result (CommitsRun S.Store (WritesDay kept.now rows.now) conn.old conn.new) }
+        → OnOk result (CommitsRun S.Store (day_texts kept.now rows.now) conn.old conn.new) }
     ensures told { HasCleanDisk (state S.Store conn.new)
         → OnErr result (IsTold S.Store (WritesDay kept.now rows.now) conn.old conn.new why.new) }
     ensures named { IfErr result (λ fault. (fault ≡ NoMemory) ↔ (why.new ≡ Some (SqliteFailure OutOfMemory))) }
@@ -76,7 +76,7 @@ fn keep_day<S: Alter>(
         → IfErr result (λ e. IsTrue (state S.Store conn.old).in_transaction
         ⊎ RefusedOf S.Store (WritesDay kept.now rows.now) conn.old conn.new e) }
     ensures wrote { HasCleanDisk (state S.Store conn.new) → SeesCommitted (state S.Store conn.old)
-        → OnOk result (CommitsRun S.Store (WritesDay kept.now rows.now) conn.old conn.new) }
+        → OnOk result (CommitsRun S.Store (day_texts kept.now rows.now) conn.old conn.new) }
     ensures crash { Survives (state S.Store conn.old) (state S.Store conn.new) (CommitsNow (IsLater kept.now.day)
         (with_day kept.now rows.now) (state S.Store conn.old)) }
 {
@@ -105,7 +105,7 @@ pub fn put_past<S: Alter>(
     ensures why { HasCleanDisk (state S.Store conn.new)
         → IfErr result (HasCauseOf S.Store (WritesPast kept.now rows.now) conn.old conn.new) }
     ensures wrote { HasCleanDisk (state S.Store conn.new)
-        → OnOk result (CommitsRun S.Store (WritesPast kept.now rows.now) conn.old conn.new) }
+        → OnOk result (CommitsRun S.Store (past_texts kept.now rows.now) conn.old conn.new) }
     ensures told { HasCleanDisk (state S.Store conn.new)
         → OnErr result (IsTold S.Store (WritesPast kept.now rows.now) conn.old conn.new why.new) }
     ensures named { IfErr result (λ fault. (fault ≡ NoMemory) ↔ (why.new ≡ Some (SqliteFailure OutOfMemory))) }
@@ -139,7 +139,7 @@ fn keep_past<S: Alter>(
         → IfErr result (λ e. IsTrue (state S.Store conn.old).in_transaction
         ⊎ RefusedOf S.Store (WritesPast kept.now rows.now) conn.old conn.new e) }
     ensures wrote { HasCleanDisk (state S.Store conn.new) → SeesCommitted (state S.Store conn.old)
-        → OnOk result (CommitsRun S.Store (WritesPast kept.now rows.now) conn.old conn.new) }
+        → OnOk result (CommitsRun S.Store (past_texts kept.now rows.now) conn.old conn.new) }
     ensures crash { Survives (state S.Store conn.old) (state S.Store conn.new) (CommitsNow HasNoDays
         (with_past kept.now rows.now) (state S.Store conn.old)) }
 {
@@ -168,7 +168,7 @@ pub fn put_tariff<S: Alter>(
     ensures why { HasCleanDisk (state S.Store conn.new)
         → IfErr result (HasCauseOf S.Store (WritesTariff xway tariff.now) conn.old conn.new) }
     ensures wrote { HasCleanDisk (state S.Store conn.new)
-        → OnOk result (CommitsRun S.Store (WritesTariff xway tariff.now) conn.old conn.new) }
+        → OnOk result (CommitsRun S.Store (tariff_texts xway tariff.now) conn.old conn.new) }
     ensures told { HasCleanDisk (state S.Store conn.new)
         → OnErr result (IsTold S.Store (WritesTariff xway tariff.now) conn.old conn.new why.new) }
     ensures named { IfErr result (λ fault. (fault ≡ NoMemory) ↔ (why.new ≡ Some (SqliteFailure OutOfMemory))) }
@@ -198,7 +198,7 @@ fn replace<S: Alter>(conn: &mut Connection<S>, xway: u8, tariff: &Tariff) -> Res
         → IfErr result (λ e. IsTrue (state S.Store conn.old).in_transaction
         ⊎ RefusedOf S.Store (WritesTariff xway tariff.now) conn.old conn.new e) }
     ensures wrote { HasCleanDisk (state S.Store conn.new) → SeesCommitted (state S.Store conn.old)
-        → OnOk result (CommitsRun S.Store (WritesTariff xway tariff.now) conn.old conn.new) }
+        → OnOk result (CommitsRun S.Store (tariff_texts xway tariff.now) conn.old conn.new) }
     ensures crash { Survives (state S.Store conn.old) (state S.Store conn.new) (CommitsNow FitsAny
         (with_tariff_of xway tariff.now) (state S.Store conn.old)) }
 {

@@ -1,5 +1,5 @@
 // The seals of days that were kept before tariffs were.
-ghost use Rattle.std.specs.Prelude.{◌≡◌, [], pos, length, map, IsTrue, IfOk, IfErr, OnOk};
+ghost use Rattle.std.specs.Prelude.{◌≡◌, [], pos, map, IsTrue, IfOk, IfErr, OnOk};
 ghost use Rattle.sqlite_value.specs.Order.{column};
 ghost use Rattle.sqlite_value.specs.declared.value.Value.TheVariants.{Int};
 ghost use Rattle.sqlite.specs.Held.{state};
@@ -14,8 +14,7 @@ ghost use Rattle.keep_tables.specs.Stands.{HoldsAs, contents_of};
 ghost use Rattle.keep_tables.specs.Steps.{StaysInside};
 ghost use Rattle.keep_tables.specs.Texts.{list_days};
 ghost use Rattle.keep_writes.specs.Growth.{IsUnsealed};
-ghost use Rattle.keep_writes.specs.Runs.{Ran};
-ghost use Rattle.keep_writes.specs.Unmade.{WritesSeals, RefusesSeals, SealsDays, EndsTables, EndsInside};
+ghost use Rattle.keep_writes.specs.Unmade.{SealsEach, RefusesSeals, SealsDays, EndsTables, EndsInside};
 
 use crate::day_writes::put_seal;
 use keep_office::seal;
@@ -95,8 +94,7 @@ fn seal_days<S: Alter>(
         → StaysInside (state S.Store tx.old.conn.now) (state S.Store tx.new.conn.now) result }
     ensures texts { HasCleanDisk (state S.Store tx.new.conn.now)
         → IsTrue (state S.Store tx.old.conn.now).in_transaction
-        → OnOk result (Ran S.Store (WritesSeals seal.now days.now (length days.now))
-        tx.old.conn.now tx.new.conn.now) }
+        → OnOk result (SealsEach S.Store seal.now days.now tx.old.conn.now tx.new.conn.now) }
     ensures refused { HasCleanDisk (state S.Store tx.new.conn.now)
         → IsTrue (state S.Store tx.old.conn.now).in_transaction
         → IfErr result (EndsInside S.Store (RefusesSeals S.Store seal.now days.now)

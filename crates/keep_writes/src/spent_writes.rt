@@ -1,5 +1,5 @@
 // The statements that put amounts.
-ghost use Rattle.std.specs.Prelude.{◌≡◌, ◌<◌, ◌^◌, [], ◌∷◌, pos, IsTrue, IfErr, OnOk};
+ghost use Rattle.std.specs.Prelude.{◌≡◌, ◌<◌, ◌^◌, [], ◌∷◌, map, pos, IsTrue, IfErr, OnOk};
 ghost use Rattle.std.specs.List.{AllByRecursion};
 ghost use Rattle.sqlite.specs.Held.{state};
 ghost use Rattle.sqlite.specs.State.{HasCleanDisk, Survives};
@@ -7,8 +7,8 @@ ghost use Rattle.keep_tables.specs.Layout.{all_tables};
 ghost use Rattle.keep_tables.specs.Stands.{FitsSpent};
 ghost use Rattle.keep_tables.specs.Steps.{StaysInside, AddsAmounts};
 ghost use Rattle.keep_writes.specs.Causes.{RefusedInside};
-ghost use Rattle.keep_writes.specs.Runs.{Ran};
-ghost use Rattle.keep_writes.specs.Writes.{WritesAmount, WritesAmounts};
+ghost use Rattle.keep_writes.specs.Runs.{RanAll};
+ghost use Rattle.keep_writes.specs.Writes.{WritesAmount, WritesAmounts, amount_text};
 
 use crate::columns::column;
 use road_time::SpentRow;
@@ -37,7 +37,7 @@ pub fn put_amount<S: Alter>(
         → IfErr result (RefusedInside S.Store (WritesAmount row.now) tx.old.conn.now tx.new.conn.now) }
     ensures ran { HasCleanDisk (state S.Store tx.new.conn.now)
         → IsTrue (state S.Store tx.old.conn.now).in_transaction
-        → OnOk result (Ran S.Store (WritesAmount row.now) tx.old.conn.now tx.new.conn.now) }
+        → OnOk result (RanAll S.Store (amount_text row.now ∷ []) tx.old.conn.now tx.new.conn.now) }
     ensures survives { Survives (state S.Store tx.old.conn.now) (state S.Store tx.new.conn.now) (λ _. ⊥) }
 {
     let day = row.day;
@@ -69,7 +69,7 @@ pub fn put_amounts<S: Alter>(tx: &mut Transaction<'_, S>, rows: &[SpentRow]) -> 
         → IfErr result (RefusedInside S.Store (WritesAmounts rows.now) tx.old.conn.now tx.new.conn.now) }
     ensures ran { HasCleanDisk (state S.Store tx.new.conn.now)
         → IsTrue (state S.Store tx.old.conn.now).in_transaction
-        → OnOk result (Ran S.Store (WritesAmounts rows.now) tx.old.conn.now tx.new.conn.now) }
+        → OnOk result (RanAll S.Store (map amount_text rows.now) tx.old.conn.now tx.new.conn.now) }
     ensures survives { Survives (state S.Store tx.old.conn.now) (state S.Store tx.new.conn.now) (λ _. ⊥) }
 {
     'rows: for row in rows {

@@ -7,8 +7,8 @@ ghost use Rattle.keep_tables.specs.Stands.{Contents, Holds, HoldsAs, HasOld, Has
 ghost use Rattle.keep_tables.specs.Steps.{StaysInside};
 ghost use Rattle.keep_writes.specs.Growth.{TextRan, RanInside, IsUnsealed, PutsVersion};
 ghost use Rattle.keep_tables.specs.Texts.{put_version as put_version_text};
-ghost use Rattle.keep_writes.specs.Runs.{RanOne};
-ghost use Rattle.keep_writes.specs.Unmade.{old_texts, new_texts, IsText, RanEach, RefusesEach, EndsInside};
+ghost use Rattle.keep_writes.specs.Runs.{IsText, RanOne, RanAll};
+ghost use Rattle.keep_writes.specs.Unmade.{old_texts, new_texts, RefusesEach, EndsInside};
 
 use sqlite::{Alter, Error, Transaction};
 
@@ -64,7 +64,7 @@ pub fn make_old<S: Alter>(tx: &mut Transaction<'_, S>) -> Result<(), Error>
         → StaysInside (state S.Store tx.old.conn.now) (state S.Store tx.new.conn.now) result }
     ensures texts { HasCleanDisk (state S.Store tx.new.conn.now)
         → IsTrue (state S.Store tx.old.conn.now).in_transaction
-        → OnOk result (RanEach S.Store old_texts tx.old.conn.now tx.new.conn.now) }
+        → OnOk result (RanAll S.Store old_texts tx.old.conn.now tx.new.conn.now) }
     ensures refused { HasCleanDisk (state S.Store tx.new.conn.now)
         → IsTrue (state S.Store tx.old.conn.now).in_transaction
         → IfErr result (EndsInside S.Store (RefusesEach S.Store old_texts) tx.old.conn.now tx.new.conn.now) }
@@ -87,7 +87,7 @@ pub fn make_rest<S: Alter>(tx: &mut Transaction<'_, S>) -> Result<(), Error>
         → StaysInside (state S.Store tx.old.conn.now) (state S.Store tx.new.conn.now) result }
     ensures texts { HasCleanDisk (state S.Store tx.new.conn.now)
         → IsTrue (state S.Store tx.old.conn.now).in_transaction
-        → OnOk result (RanEach S.Store new_texts tx.old.conn.now tx.new.conn.now) }
+        → OnOk result (RanAll S.Store new_texts tx.old.conn.now tx.new.conn.now) }
     ensures refused { HasCleanDisk (state S.Store tx.new.conn.now)
         → IsTrue (state S.Store tx.old.conn.now).in_transaction
         → IfErr result (EndsInside S.Store (RefusesEach S.Store new_texts) tx.old.conn.now tx.new.conn.now) }
@@ -122,7 +122,7 @@ pub fn put_version<S: Alter>(tx: &mut Transaction<'_, S>) -> Result<(), Error>
         → StaysInside (state S.Store tx.old.conn.now) (state S.Store tx.new.conn.now) result }
     ensures texts { HasCleanDisk (state S.Store tx.new.conn.now)
         → IsTrue (state S.Store tx.old.conn.now).in_transaction
-        → OnOk result (RanOne S.Store (IsText put_version_text) tx.old.conn.now tx.new.conn.now) }
+        → OnOk result (RanOne S.Store (IsText (put_version_text, [])) tx.old.conn.now tx.new.conn.now) }
     ensures refused { HasCleanDisk (state S.Store tx.new.conn.now)
         → IsTrue (state S.Store tx.old.conn.now).in_transaction
         → IfErr result (λ e. ExecutesInside 0 put_version_text [] (state S.Store tx.old.conn.now)

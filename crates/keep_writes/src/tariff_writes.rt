@@ -10,8 +10,8 @@ ghost use Rattle.keep_tables.specs.Stands.{HasOffice};
 ghost use Rattle.keep_tables.specs.Steps.{StaysInside};
 ghost use Rattle.keep_tables.specs.Shown.{tariff_columns};
 ghost use Rattle.keep_writes.specs.Causes.{LeftByDrop, RefusedInside};
-ghost use Rattle.keep_writes.specs.Runs.{Ran};
-ghost use Rattle.keep_writes.specs.Writes.{WritesTariff, WritesTaken, WritesGiven};
+ghost use Rattle.keep_writes.specs.Runs.{RanAll};
+ghost use Rattle.keep_writes.specs.Writes.{WritesTariff, WritesTaken, WritesGiven, taken_text, given_text, tariff_texts};
 
 use road_time::Tariff;
 use sqlite::{Alter, Error, Transaction, params};
@@ -32,7 +32,7 @@ pub fn write<S: Alter>(tx: &mut Transaction<'_, S>, xway: u8, tariff: &Tariff) -
         → IfErr result (RefusedInside S.Store (WritesTariff xway tariff.now) tx.old.conn.now tx.new.conn.now) }
     ensures ran { HasCleanDisk (state S.Store tx.new.conn.now)
         → IsTrue (state S.Store tx.old.conn.now).in_transaction
-        → OnOk result (Ran S.Store (WritesTariff xway tariff.now) tx.old.conn.now tx.new.conn.now) }
+        → OnOk result (RanAll S.Store (tariff_texts xway tariff.now) tx.old.conn.now tx.new.conn.now) }
     ensures survives { Survives (state S.Store tx.old.conn.now) (state S.Store tx.new.conn.now) (λ _. ⊥) }
 {
     take(tx, xway)?;
@@ -57,7 +57,7 @@ fn take<S: Alter>(tx: &mut Transaction<'_, S>, xway: u8) -> Result<(), Error>
         → IfErr result (RefusedInside S.Store (WritesTaken xway) tx.old.conn.now tx.new.conn.now) }
     ensures ran { HasCleanDisk (state S.Store tx.new.conn.now)
         → IsTrue (state S.Store tx.old.conn.now).in_transaction
-        → OnOk result (Ran S.Store (WritesTaken xway) tx.old.conn.now tx.new.conn.now) }
+        → OnOk result (RanAll S.Store (taken_text xway ∷ []) tx.old.conn.now tx.new.conn.now) }
     ensures dropped { HasCleanDisk (state S.Store tx.new.conn.now)
         → IsTrue (state S.Store tx.old.conn.now).in_transaction
         → OnOk result (LeftByDrop S.Store (Int (pos xway) ∷ []) tx.new.conn.now) }
@@ -90,7 +90,7 @@ fn give<S: Alter>(tx: &mut Transaction<'_, S>, xway: u8, tariff: &Tariff) -> Res
         → IfErr result (RefusedInside S.Store (WritesGiven xway tariff.now) tx.old.conn.now tx.new.conn.now) }
     ensures ran { HasCleanDisk (state S.Store tx.new.conn.now)
         → IsTrue (state S.Store tx.old.conn.now).in_transaction
-        → OnOk result (Ran S.Store (WritesGiven xway tariff.now) tx.old.conn.now tx.new.conn.now) }
+        → OnOk result (RanAll S.Store (given_text xway tariff.now ∷ []) tx.old.conn.now tx.new.conn.now) }
     ensures survives { Survives (state S.Store tx.old.conn.now) (state S.Store tx.new.conn.now) (λ _. ⊥) }
 {
     match tx.execute(

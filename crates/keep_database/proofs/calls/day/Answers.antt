@@ -12,6 +12,8 @@ use Rattle.keep_database.proofs.GiveLaws.{refused_so, gives_weaker}
 use Rattle.keep_database.proofs.CauseSteps.{failure_is, failure_after, wants_handed, wants_after}
 use Rattle.keep_database.proofs.LookLaws.{some_then, sealed_before}
 use Rattle.keep_database.proofs.StandLaws.{always}
+use Rattle.keep_database.specs.Exact.{IsDayIn}
+use Rattle.keep_database.proofs.ShowLaws.{ok_then, both_before}
 use Rattle.keep_database.proofs.calls.day.Goals as goal
 
 pub returns-in_err-ready-clause-gives : goal.returns-in_err-ready-clause-gives
@@ -70,3 +72,9 @@ returns-clause-memory g c clean o stands none =
     c.ready.ensures.survives _
     (c.day.ensures.memory clean o
     (subst (λ (db : Database). HasOffice db o) (sym ((c.ready.ensures.kept early).committed there.0)) there.1) none)
+
+pub returns-clause-shows : goal.returns-clause-shows
+returns-clause-shows g c clean =
+    ok_then c.day.result _ _ (c.day.ensures.shows clean)
+    (λ kept h. both_before g.S.Store c.args.conn.now c.ready.new.conn
+    (c.ready.ensures.kept (omega (arith, c.day.ensures.survives.clean))) _ _ _ _ (λ l m. IsDayIn c.args.day l m kept) h)

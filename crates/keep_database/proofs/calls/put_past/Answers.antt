@@ -9,7 +9,7 @@ use Rattle.keep_tables.proofs.StepLaws.{kept_then}
 use Rattle.keep_writes.proofs.GrowLaws.{err_stands}
 use Rattle.keep_database.proofs.StandLaws.{put_stands, put_lasts, spared_after, always}
 use Rattle.keep_database.proofs.CauseSteps.{causes_after, told_after, on_err, on_else}
-use Rattle.keep_writes.specs.Writes.{WritesPast}
+use Rattle.keep_writes.specs.Writes.{WritesPast, past_texts}
 use Rattle.keep_writes.proofs.CauseLaws.{err_handed, cause_idle, on_then}
 use Rattle.keep_writes.proofs.RunLaws.{commits_after}
 use Rattle.keep_database.proofs.calls.put_past.Goals as goal
@@ -61,7 +61,7 @@ returns-clause-version g c clean =
 pub returns-clause-wrote : goal.returns-clause-wrote
 returns-clause-wrote g c clean =
     on_then c.put_past.result _ _ (c.put_past.ensures.wrote clean)
-    (commits_after g.S.Store (WritesPast c.args.kept.now c.args.rows.now) c.args.conn.now c.ready.new.conn
+    (commits_after g.S.Store (past_texts c.args.kept.now c.args.rows.now) c.args.conn.now c.ready.new.conn
     c.put_past.new.conn (c.ready.ensures.kept (omega (arith, c.put_past.ensures.crash.clean))))
 
 pub returns-in_err-ready-clause-told : goal.returns-in_err-ready-clause-told

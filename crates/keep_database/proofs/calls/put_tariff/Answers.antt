@@ -10,7 +10,7 @@ use Rattle.keep_tables.proofs.StepLaws.{kept_then}
 use Rattle.keep_writes.proofs.GrowLaws.{err_stands}
 use Rattle.keep_database.proofs.StandLaws.{put_stands, put_lasts, spared_after, always}
 use Rattle.keep_database.proofs.CauseSteps.{causes_after, told_after, on_err, on_else}
-use Rattle.keep_writes.specs.Writes.{WritesTariff}
+use Rattle.keep_writes.specs.Writes.{WritesTariff, tariff_texts}
 use Rattle.keep_writes.proofs.CauseLaws.{err_handed, cause_idle, on_then}
 use Rattle.keep_writes.proofs.RunLaws.{commits_after}
 use Rattle.keep_database.proofs.calls.put_tariff.Goals as goal
@@ -62,7 +62,7 @@ returns-clause-version g c clean =
 pub returns-clause-wrote : goal.returns-clause-wrote
 returns-clause-wrote g c clean =
     on_then c.put_tariff.result _ _ (c.put_tariff.ensures.wrote clean)
-    (commits_after g.S.Store (WritesTariff c.args.xway c.args.tariff.now) c.args.conn.now c.ready.new.conn
+    (commits_after g.S.Store (tariff_texts c.args.xway c.args.tariff.now) c.args.conn.now c.ready.new.conn
     c.put_tariff.new.conn (c.ready.ensures.kept (omega (arith, c.put_tariff.ensures.crash.clean))))
 
 pub returns-in_err-ready-clause-told : goal.returns-in_err-ready-clause-told

@@ -10,6 +10,8 @@ use Rattle.keep_writes.specs.Causes.{WasRefusedIn}
 use Rattle.keep_database.proofs.GiveLaws.{refused_so, gives_weaker}
 use Rattle.keep_database.proofs.CauseSteps.{failure_is, failure_after, memory_handed, memory_after}
 use Rattle.keep_database.proofs.StandLaws.{always}
+use Rattle.keep_tables.specs.Amounts.{HasAmount}
+use Rattle.keep_database.proofs.ShowLaws.{ok_then, such_before}
 use Rattle.keep_database.proofs.calls.spent.Goals as goal
 
 pub returns-in_err-ready-clause-gives : goal.returns-in_err-ready-clause-gives
@@ -59,3 +61,9 @@ returns-clause-version g c clean =
       now = c.ready.new.conn;
       shows = c.in_ok-ready.ensures.version (omega (arith, c.spent.ensures.survives.clean));
     })
+
+pub returns-clause-shows : goal.returns-clause-shows
+returns-clause-shows g c clean =
+    ok_then c.spent.result _ _ (c.spent.ensures.shows clean)
+    (λ tolls h. such_before g.S.Store c.args.conn.now c.ready.new.conn
+    (c.ready.ensures.kept (omega (arith, c.spent.ensures.survives.clean))) _ _ (λ l. HasAmount l tolls) h)

@@ -10,6 +10,8 @@ use Rattle.keep_writes.specs.Causes.{WasRefusedIn}
 use Rattle.keep_database.proofs.GiveLaws.{refused_so, gives_weaker}
 use Rattle.keep_database.proofs.CauseSteps.{failure_is, failure_after, wants_handed, wants_after}
 use Rattle.keep_database.proofs.StandLaws.{always}
+use Rattle.keep_database.specs.Exact.{AreTariffsIn}
+use Rattle.keep_database.proofs.ShowLaws.{ok_then, such_before}
 use Rattle.keep_database.proofs.calls.tariffs.Goals as goal
 
 pub returns-in_err-ready-clause-gives : goal.returns-in_err-ready-clause-gives
@@ -61,3 +63,9 @@ returns-clause-memory g c clean o stands none =
     c.ready.ensures.survives _
     (c.tariffs.ensures.memory clean o
     (subst (λ (db : Database). HasOffice db o) (sym ((c.ready.ensures.kept early).committed there.0)) there.1) none)
+
+pub returns-clause-shows : goal.returns-clause-shows
+returns-clause-shows g c clean =
+    ok_then c.tariffs.result _ _ (c.tariffs.ensures.shows clean)
+    (λ tariffs h. such_before g.S.Store c.args.conn.now c.ready.new.conn
+    (c.ready.ensures.kept (omega (arith, c.tariffs.ensures.survives.clean))) _ _ (λ l. AreTariffsIn l tariffs) h)

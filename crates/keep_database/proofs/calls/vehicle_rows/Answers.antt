@@ -11,6 +11,8 @@ use Rattle.keep_writes.specs.Causes.{WasRefusedIn}
 use Rattle.keep_database.proofs.GiveLaws.{refused_so, gives_weaker}
 use Rattle.keep_database.proofs.CauseSteps.{failure_is, failure_after, wants_handed, wants_after}
 use Rattle.keep_database.proofs.StandLaws.{always}
+use Rattle.keep_database.specs.Exact.{AreAmounts}
+use Rattle.keep_database.proofs.ShowLaws.{ok_then, such_before}
 use Rattle.keep_database.proofs.calls.vehicle_rows.Goals as goal
 
 pub returns-in_err-ready-clause-gives : goal.returns-in_err-ready-clause-gives
@@ -64,3 +66,9 @@ returns-clause-memory g c clean o stands none =
     c.ready.ensures.survives _
     (c.vehicle_rows.ensures.memory clean o
     (subst (λ (db : Database). HasOffice db o) (sym ((c.ready.ensures.kept early).committed there.0)) there.1) none)
+
+pub returns-clause-shows : goal.returns-clause-shows
+returns-clause-shows g c clean =
+    ok_then c.vehicle_rows.result _ _ (c.vehicle_rows.ensures.shows clean)
+    (λ v h. such_before g.S.Store c.args.conn.now c.ready.new.conn
+    (c.ready.ensures.kept (omega (arith, c.vehicle_rows.ensures.survives.clean))) _ _ (λ l. AreAmounts l v.items) h)

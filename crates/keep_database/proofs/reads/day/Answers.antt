@@ -15,6 +15,8 @@ use Rattle.keep_database.proofs.GiveLaws.{gives_so, refused_so, record_fits, one
 use Rattle.keep_database.proofs.LookLaws.{day_looks, seal_looks, some_then, committed_before}
 use Rattle.keep_database.proofs.CauseSteps.{failure_is, failure_after, wants_handed, wants_after}
 use Rattle.keep_database.proofs.StandLaws.{always}
+use Rattle.keep_database.specs.Exact.{IsDayIn}
+use Rattle.keep_database.proofs.ShowLaws.{ok_then, both_shown}
 use Rattle.keep_database.proofs.reads.day.Goals as goal
 
 pub look-requires : goal.look-requires
@@ -124,3 +126,13 @@ returns-clause-memory g c clean o has none =
     (day_looks g.S.Store c.args.conn.now c.look.new.conn o has c.in_ok-found.found.items c.args.day
     (rw (c.params-to_sql.ensures) at (c.in_ok-found.ensures.shown early)))
     (rw (sym c.deref.ensures.value) (c.day_of.ensures.memory none)))
+
+pub returns-clause-shows : goal.returns-clause-shows
+returns-clause-shows g c clean =
+    let early : HasCleanDisk (state g.S.Store c.look.new.conn) = omega (arith, c.look-2.ensures.survives.clean) in
+    let one = rw (c.params-to_sql.ensures) at (c.in_ok-found.ensures.shown early) in
+    let two = rw (c.params-to_sql-2.ensures) at (c.in_ok-seals.ensures.shown clean) in
+    ok_then c.day_of.result _ _ c.day_of.ensures.exact
+    (λ kept h. both_shown g.S.Store c.args.conn.now c.look.new.conn (c.look.ensures.kept early) c.look-2.new.conn
+    (c.look-2.ensures.kept clean) _ _ _ _ c.in_ok-found.found.items c.in_ok-seals.seals.items _ _ (λ l m. IsDayIn c.args.day l m kept) one two
+    c.deref.ensures.value c.deref-2.ensures.value h)

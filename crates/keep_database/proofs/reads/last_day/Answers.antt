@@ -13,6 +13,8 @@ use Rattle.keep_database.proofs.GiveLaws.{gives_so, refused_so, past_based, one_
 use Rattle.keep_database.proofs.LookLaws.{last_looks, past_looks}
 use Rattle.keep_database.proofs.CauseSteps.{failure_is, failure_after, wants_handed, wants_after}
 use Rattle.keep_database.proofs.StandLaws.{always}
+use Rattle.keep_database.specs.Exact.{IsLastIn}
+use Rattle.keep_database.proofs.ShowLaws.{ok_then, both_shown}
 use Rattle.keep_database.proofs.reads.last_day.Goals as goal
 
 pub look-requires : goal.look-requires
@@ -98,3 +100,13 @@ returns-clause-memory g c clean o has none =
     (one_there past_values o.past c.in_ok-found.found.items
     (past_looks g.S.Store c.look.new.conn c.look-2.new.conn o still c.in_ok-found.found.items
     (c.in_ok-found.ensures.shown clean)) (rw (sym c.deref-2.ensures.value) (c.last_of.ensures.memory none)))
+
+pub returns-clause-shows : goal.returns-clause-shows
+returns-clause-shows g c clean =
+    let early : HasCleanDisk (state g.S.Store c.look.new.conn) = omega (arith, c.look-2.ensures.survives.clean) in
+    let one = c.in_ok-days.ensures.shown early in
+    let two = c.in_ok-found.ensures.shown clean in
+    ok_then c.last_of.result _ _ c.last_of.ensures.exact
+    (λ last h. both_shown g.S.Store c.args.conn.now c.look.new.conn (c.look.ensures.kept early) c.look-2.new.conn
+    (c.look-2.ensures.kept clean) _ _ _ _ c.in_ok-days.days.items c.in_ok-found.found.items _ _ (λ l m. IsLastIn l m last) one two
+    c.deref.ensures.value c.deref-2.ensures.value h)

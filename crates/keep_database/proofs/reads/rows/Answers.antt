@@ -11,6 +11,8 @@ use Rattle.keep_database.proofs.GiveLaws.{gives_so, refused_so, some_there}
 use Rattle.keep_database.proofs.LookLaws.{rows_look}
 use Rattle.keep_database.proofs.CauseSteps.{failure_is, wants_handed}
 use Rattle.keep_database.proofs.StandLaws.{always}
+use Rattle.keep_database.specs.Exact.{AreAmounts}
+use Rattle.keep_database.proofs.ShowLaws.{ok_then, such_shown}
 use Rattle.keep_database.proofs.reads.rows.Goals as goal
 
 pub look-requires : goal.look-requires
@@ -49,3 +51,10 @@ returns-clause-memory g c clean o has none =
     (rows_look g.S.Store c.args.conn.now c.look.new.conn o has c.in_ok-found.found.items c.args.from c.args.to
     (rw (c.params-to_sql.ensures, c.params-to_sql-2.ensures) at (c.in_ok-found.ensures.shown clean)))
     (rw (sym c.deref.ensures.value) (c.amounts_of.ensures.memory none)))
+
+pub returns-clause-shows : goal.returns-clause-shows
+returns-clause-shows g c clean =
+    let shown = rw (c.params-to_sql.ensures, c.params-to_sql-2.ensures) at (c.in_ok-found.ensures.shown clean) in
+    ok_then c.amounts_of.result _ _ c.amounts_of.ensures.exact
+    (λ v h. such_shown g.S.Store c.args.conn.now c.look.new.conn (c.look.ensures.kept clean) _ _
+    c.in_ok-found.found.items _ (λ l. AreAmounts l v.items) shown c.deref.ensures.value h)

@@ -8,6 +8,7 @@ use Rattle.keep_database.proofs.GiveLaws.{gives_so, refused_so}
 use Rattle.keep_database.proofs.LookLaws.{spent_looks}
 use Rattle.keep_database.proofs.CauseSteps.{failure_is, memory_handed}
 use Rattle.keep_database.proofs.StandLaws.{always}
+use Rattle.keep_database.proofs.ShowLaws.{ok_then, such_shown}
 use Rattle.keep_database.proofs.reads.spent.Goals as goal
 
 pub look-requires : goal.look-requires
@@ -40,3 +41,10 @@ returns-in_err-found-clause-memory g c clean none =
 
 pub returns-clause-memory : goal.returns-clause-memory
 returns-clause-memory g c clean none = absurd (c.amount_in.ensures.pure none)
+
+pub returns-clause-shows : goal.returns-clause-shows
+returns-clause-shows g c clean =
+    let shown = rw (c.params-to_sql.ensures, c.params-to_sql-2.ensures, c.params-to_sql-3.ensures, c.from.ensures) at (c.in_ok-found.ensures.shown clean) in
+    ok_then c.amount_in.result _ _ c.amount_in.ensures.exact
+    (λ tolls h. such_shown g.S.Store c.args.conn.now c.look.new.conn (c.look.ensures.kept clean) _ _
+    c.in_ok-found.found.items _ (λ l. HasAmount l tolls) shown c.deref.ensures.value h)

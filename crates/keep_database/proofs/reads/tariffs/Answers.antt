@@ -7,6 +7,8 @@ use Rattle.keep_database.proofs.GiveLaws.{gives_so, refused_so, some_there}
 use Rattle.keep_database.proofs.LookLaws.{tariffs_look}
 use Rattle.keep_database.proofs.CauseSteps.{failure_is, wants_handed}
 use Rattle.keep_database.proofs.StandLaws.{always}
+use Rattle.keep_database.specs.Exact.{AreTariffsIn}
+use Rattle.keep_database.proofs.ShowLaws.{ok_then, such_shown}
 use Rattle.keep_database.proofs.reads.tariffs.Goals as goal
 
 pub look-requires : goal.look-requires
@@ -38,3 +40,10 @@ returns-clause-memory g c clean o has none =
     (some_there tariff_columns o.tariffs c.in_ok-found.found.items
     (tariffs_look g.S.Store c.args.conn.now c.look.new.conn o has c.in_ok-found.found.items
     (c.in_ok-found.ensures.shown clean)) (rw (sym c.deref.ensures.value) (c.tariffs_of.ensures.memory none)))
+
+pub returns-clause-shows : goal.returns-clause-shows
+returns-clause-shows g c clean =
+    let shown = c.in_ok-found.ensures.shown clean in
+    ok_then c.tariffs_of.result _ _ c.tariffs_of.ensures.exact
+    (λ tariffs h. such_shown g.S.Store c.args.conn.now c.look.new.conn (c.look.ensures.kept clean) _ _
+    c.in_ok-found.found.items _ (λ l. AreTariffsIn l tariffs) shown c.deref.ensures.value h)

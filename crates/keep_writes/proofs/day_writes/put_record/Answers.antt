@@ -3,8 +3,8 @@ use Rattle.sqlite.specs.Held.{state}
 use Rattle.keep_tables.specs.Texts.{put_day}
 use Rattle.keep_tables.proofs.DayWriteLaws.{day_puts}
 use Rattle.keep_tables.proofs.PutLaws.{whole_by}
-use Rattle.keep_writes.specs.Writes.{WritesRecord}
-use Rattle.keep_writes.proofs.CauseLaws.{text_refused, text_ran, not_day}
+use Rattle.keep_writes.proofs.RunLaws.{all_once}
+use Rattle.keep_writes.proofs.CauseLaws.{text_refused, not_day}
 use Rattle.keep_writes.proofs.day_writes.put_record.Goals as goal
 
 pub returns-in-Ok-clause-puts : goal.returns-in-Ok-clause-puts
@@ -90,8 +90,7 @@ returns-in-Ok-clause-ran g c clean inside =
       c.column-notices.ensures,
       c.column-total.ensures,
     ) at (c.in-Ok.ensures.runs clean inside) in
-    text_ran g.S.Store (WritesRecord c.args.kept.now) c.args.tx.now.conn.now c.execute.new.self.conn.now put_day _
-    c.in-Ok.field-0 (refl, refl) inside ran
+    all_once g.S.Store c.args.tx.now.conn.now c.execute.new.self.conn.now put_day _ c.in-Ok.field-0 inside ran
 
 pub returns-in-Ok-clause-digest : goal.returns-in-Ok-clause-digest
 returns-in-Ok-clause-digest g c =

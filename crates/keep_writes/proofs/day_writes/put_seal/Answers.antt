@@ -6,8 +6,8 @@ use Rattle.road_digest.specs.declared.digest.Digest.{Digest}
 use Rattle.keep_tables.specs.Texts.{put_seal}
 use Rattle.keep_tables.proofs.DayWriteLaws.{seal_puts}
 use Rattle.keep_tables.proofs.PutLaws.{whole_by}
-use Rattle.keep_writes.specs.Writes.{WritesSeal}
-use Rattle.keep_writes.proofs.CauseLaws.{text_refused, text_ran, not_seal}
+use Rattle.keep_writes.proofs.RunLaws.{all_once}
+use Rattle.keep_writes.proofs.CauseLaws.{text_refused, not_seal}
 use Rattle.keep_writes.proofs.day_writes.put_seal.Goals as goal
 
 pub returns-in-Ok-clause-puts : goal.returns-in-Ok-clause-puts
@@ -30,8 +30,7 @@ returns-in-Err-clause-refused g c clean inside =
 pub returns-in-Ok-clause-ran : goal.returns-in-Ok-clause-ran
 returns-in-Ok-clause-ran g c clean inside =
     let ran = rw (c.params-to_sql.ensures, c.params-to_sql-2.ensures, c.bytes_of-bytes.ensures.same) at (c.in-Ok.ensures.runs clean inside) in
-    text_ran g.S.Store (WritesSeal c.args.day c.args.seal.now) c.args.tx.now.conn.now c.execute.new.self.conn.now put_seal _
-    c.in-Ok.field-0 (refl, refl) inside ran
+    all_once g.S.Store c.args.tx.now.conn.now c.execute.new.self.conn.now put_seal _ c.in-Ok.field-0 inside ran
 
 pub returns-in-Ok-clause-fits : goal.returns-in-Ok-clause-fits
 returns-in-Ok-clause-fits g c = whole_by c.args.seal.now c.bytes_of-bytes.ensures.long c.bytes_of-bytes.ensures.each

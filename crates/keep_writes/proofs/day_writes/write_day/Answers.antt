@@ -1,13 +1,13 @@
-use Rattle.std.proofs.Common.{◌^◌, refl, ◌∙◌, arith, inl, inr, IsTrue}
+use Rattle.std.proofs.Common.{◌^◌, [], ◌∷◌, map, refl, ◌∙◌, arith, inl, inr, IsTrue}
 use Rattle.sqlite.specs.Held.{state}
 use Rattle.sqlite.specs.State.{HasCleanDisk}
 use Rattle.keep_tables.specs.Stands.{Holds, FitsDay, contents_of, with_record, with_seal}
 use Rattle.keep_tables.proofs.PutLaws.{days_before, below_sum, adds_holds, day_stands, ok_both, stays_then, shows_then}
 use Rattle.keep_tables.proofs.PutLaws.{survives_both}
-use Rattle.keep_writes.specs.Writes.{WritesDay, WritesRecord, WritesSeal, WritesAmounts}
-use Rattle.keep_writes.specs.Runs.{Ran}
-use Rattle.keep_writes.proofs.RunLaws.{ran_then, ran_wider}
-use Rattle.keep_writes.proofs.CauseLaws.{err_handed, errs_inside, kept_inside, inside_after, inside_wider, on_then}
+use Rattle.keep_writes.specs.Writes.{WritesDay, WritesRecord, WritesSeal, WritesAmounts, record_text, seal_text}
+use Rattle.keep_writes.specs.Writes.{amount_text}
+use Rattle.keep_writes.proofs.RunLaws.{ran_of, ran_then, all_then}
+use Rattle.keep_writes.proofs.CauseLaws.{err_handed, errs_inside, kept_inside, inside_after, inside_wider, both_ran}
 use Rattle.keep_writes.proofs.day_writes.write_day.Goals as goal
 
 pub returns-clause-wrote : goal.returns-clause-wrote
@@ -77,8 +77,8 @@ returns-in_err-put_seal-clause-refused g c clean inside =
     err_handed c.from_residual-in_err-put_seal.result c.in_err-put_seal.field-0.0 _
     c.from_residual-in_err-put_seal.ensures.1
     (inside_after g.S.Store c.args.tx.now.conn.now c.put_record.new.tx.conn.now c.put_seal.new.tx.conn.now _
-    (ran_wider g.S.Store (WritesRecord c.args.kept.now) (WritesDay c.args.kept.now c.args.rows.now)
-    (λ sql params is. inl is) c.args.tx.now.conn.now c.put_record.new.tx.conn.now
+    (ran_of g.S.Store (WritesDay c.args.kept.now c.args.rows.now) (record_text c.args.kept.now ∷ [])
+    (inl (refl, refl), tt) c.args.tx.now.conn.now c.put_record.new.tx.conn.now
     (c.in_ok-put_record.ensures.ran early inside))
     (kept_inside old first one) c.put_record.ensures.survives
     (inside_wider g.S.Store (WritesSeal c.args.kept.now.day c.args.kept.now.tariffs)
@@ -99,12 +99,12 @@ returns-clause-refused g c clean inside =
     c.put_amounts.result
     (ran_then g.S.Store (WritesDay c.args.kept.now c.args.rows.now) c.args.tx.now.conn.now c.put_record.new.tx.conn.now
     c.put_seal.new.tx.conn.now
-    (ran_wider g.S.Store (WritesRecord c.args.kept.now) (WritesDay c.args.kept.now c.args.rows.now)
-    (λ sql params is. inl is) c.args.tx.now.conn.now c.put_record.new.tx.conn.now
+    (ran_of g.S.Store (WritesDay c.args.kept.now c.args.rows.now) (record_text c.args.kept.now ∷ [])
+    (inl (refl, refl), tt) c.args.tx.now.conn.now c.put_record.new.tx.conn.now
     (c.in_ok-put_record.ensures.ran early inside))
-    (ran_wider g.S.Store (WritesSeal c.args.kept.now.day c.args.kept.now.tariffs)
-    (WritesDay c.args.kept.now c.args.rows.now) (λ sql params is. inr (inl is)) c.put_record.new.tx.conn.now
-    c.put_seal.new.tx.conn.now (c.in_ok-put_seal.ensures.ran late (one.mode ∙ inside))))
+    (ran_of g.S.Store (WritesDay c.args.kept.now c.args.rows.now)
+    (seal_text c.args.kept.now.day c.args.kept.now.tariffs ∷ []) (inr (inl (refl, refl)), tt)
+    c.put_record.new.tx.conn.now c.put_seal.new.tx.conn.now (c.in_ok-put_seal.ensures.ran late (one.mode ∙ inside))))
     (shows_then old first second one two)
     (survives_both old first second c.put_record.ensures.survives c.put_seal.ensures.survives)
     (c.put_amounts.ensures.refused clean (two.mode ∙ (one.mode ∙ inside)))
@@ -118,22 +118,15 @@ returns-clause-ran g c clean inside =
     let early : HasCleanDisk first = omega (arith, late, c.put_seal.ensures.survives.clean) in
     let one = c.in_ok-put_record.ensures.inside early inside in
     let two = c.in_ok-put_seal.ensures.inside late (one.mode ∙ inside) in
-    let writes = WritesDay c.args.kept.now c.args.rows.now in
-    let begun = ran_then g.S.Store writes c.args.tx.now.conn.now c.put_record.new.tx.conn.now
-    c.put_seal.new.tx.conn.now
-    (ran_wider g.S.Store (WritesRecord c.args.kept.now) writes (λ sql params is. inl is) c.args.tx.now.conn.now
-    c.put_record.new.tx.conn.now (c.in_ok-put_record.ensures.ran early inside))
-    (ran_wider g.S.Store (WritesSeal c.args.kept.now.day c.args.kept.now.tariffs) writes
-    (λ sql params is. inr (inl is)) c.put_record.new.tx.conn.now c.put_seal.new.tx.conn.now
-    (c.in_ok-put_seal.ensures.ran late (one.mode ∙ inside))) in
-    on_then c.put_amounts.result
-    (Ran g.S.Store (WritesAmounts c.args.rows.now) c.put_seal.new.tx.conn.now c.put_amounts.new.tx.conn.now)
-    (Ran g.S.Store writes c.args.tx.now.conn.now c.put_amounts.new.tx.conn.now)
+    both_ran g.S.Store
+    (record_text c.args.kept.now ∷ seal_text c.args.kept.now.day c.args.kept.now.tariffs ∷ [])
+    (map amount_text c.args.rows.now) c.args.tx.now.conn.now c.put_seal.new.tx.conn.now c.put_amounts.new.tx.conn.now
+    c.put_amounts.result
+    (all_then g.S.Store (record_text c.args.kept.now ∷ [])
+    (seal_text c.args.kept.now.day c.args.kept.now.tariffs ∷ []) c.args.tx.now.conn.now c.put_record.new.tx.conn.now
+    c.put_seal.new.tx.conn.now (c.in_ok-put_record.ensures.ran early inside)
+    (c.in_ok-put_seal.ensures.ran late (one.mode ∙ inside)))
     (c.put_amounts.ensures.ran clean (two.mode ∙ (one.mode ∙ inside)))
-    (λ it. ran_then g.S.Store writes c.args.tx.now.conn.now c.put_seal.new.tx.conn.now c.put_amounts.new.tx.conn.now
-    begun
-    (ran_wider g.S.Store (WritesAmounts c.args.rows.now) writes (λ sql params is. inr (inr is))
-    c.put_seal.new.tx.conn.now c.put_amounts.new.tx.conn.now it))
 
 pub returns-clause-survives : goal.returns-clause-survives
 returns-clause-survives g c =

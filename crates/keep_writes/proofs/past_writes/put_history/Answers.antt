@@ -3,8 +3,8 @@ use Rattle.sqlite.specs.Held.{state}
 use Rattle.keep_tables.specs.Texts.{put_past}
 use Rattle.keep_tables.proofs.DayWriteLaws.{past_puts}
 use Rattle.keep_tables.proofs.PutLaws.{whole_by}
-use Rattle.keep_writes.specs.Writes.{WritesHistory}
-use Rattle.keep_writes.proofs.CauseLaws.{text_refused, text_ran, not_past}
+use Rattle.keep_writes.proofs.RunLaws.{all_once}
+use Rattle.keep_writes.proofs.CauseLaws.{text_refused, not_past}
 use Rattle.keep_writes.proofs.past_writes.put_history.Goals as goal
 
 pub returns-in-Ok-clause-puts : goal.returns-in-Ok-clause-puts
@@ -61,8 +61,7 @@ returns-in-Ok-clause-ran g c clean inside =
       c.column-bytes.ensures,
       c.column-count.ensures,
     ) at (c.in-Ok.ensures.runs clean inside) in
-    text_ran g.S.Store (WritesHistory c.args.kept.now) c.args.tx.now.conn.now c.execute.new.self.conn.now put_past _
-    c.in-Ok.field-0 (refl, refl) inside ran
+    all_once g.S.Store c.args.tx.now.conn.now c.execute.new.self.conn.now put_past _ c.in-Ok.field-0 inside ran
 
 pub returns-in-Ok-clause-fits : goal.returns-in-Ok-clause-fits
 returns-in-Ok-clause-fits g c = (

@@ -1,10 +1,10 @@
-use Rattle.std.proofs.Common.{◌∙◌, arith, inl, inr, IsTrue}
+use Rattle.std.proofs.Common.{[], ◌∷◌, map, refl, ◌∙◌, arith, inl, inr, IsTrue}
 use Rattle.sqlite.specs.Held.{state}
 use Rattle.sqlite.specs.State.{HasCleanDisk}
 use Rattle.keep_tables.specs.Stands.{Holds, contents_of, with_history}
 use Rattle.keep_tables.proofs.PutLaws.{adds_holds, past_stands, ok_both, stays_then, survives_both}
-use Rattle.keep_writes.specs.Writes.{WritesPast, WritesHistory, WritesAmounts}
-use Rattle.keep_writes.proofs.RunLaws.{ran_wider}
+use Rattle.keep_writes.specs.Writes.{WritesPast, WritesHistory, WritesAmounts, history_text, amount_text}
+use Rattle.keep_writes.proofs.RunLaws.{ran_of}
 use Rattle.keep_writes.proofs.CauseLaws.{err_handed, errs_inside, inside_wider, both_ran}
 use Rattle.keep_writes.proofs.past_writes.write_past.Goals as goal
 
@@ -51,8 +51,8 @@ returns-clause-refused g c clean inside =
     errs_inside g.S.Store (WritesAmounts c.args.rows.now) (WritesPast c.args.kept.now c.args.rows.now)
     (λ sql params is. inr is) c.args.tx.now.conn.now c.put_history.new.tx.conn.now c.put_amounts.new.tx.conn.now
     c.put_amounts.result
-    (ran_wider g.S.Store (WritesHistory c.args.kept.now) (WritesPast c.args.kept.now c.args.rows.now)
-    (λ sql params is. inl is) c.args.tx.now.conn.now c.put_history.new.tx.conn.now
+    (ran_of g.S.Store (WritesPast c.args.kept.now c.args.rows.now) (history_text c.args.kept.now ∷ [])
+    (inl (refl, refl), tt) c.args.tx.now.conn.now c.put_history.new.tx.conn.now
     (c.in_ok-put_history.ensures.ran early inside))
     one c.put_history.ensures.survives (c.put_amounts.ensures.refused clean (one.mode ∙ inside))
 
@@ -61,8 +61,7 @@ returns-clause-ran g c clean inside =
     let first = state g.S.Store c.put_history.new.tx.conn.now in
     let early : HasCleanDisk first = omega (arith, c.put_amounts.ensures.survives.clean) in
     let one = c.in_ok-put_history.ensures.inside early inside in
-    both_ran g.S.Store (WritesHistory c.args.kept.now) (WritesAmounts c.args.rows.now)
-    (WritesPast c.args.kept.now c.args.rows.now) (λ sql params is. inl is) (λ sql params is. inr is)
+    both_ran g.S.Store (history_text c.args.kept.now ∷ []) (map amount_text c.args.rows.now)
     c.args.tx.now.conn.now c.put_history.new.tx.conn.now c.put_amounts.new.tx.conn.now c.put_amounts.result
     (c.in_ok-put_history.ensures.ran early inside) (c.put_amounts.ensures.ran clean (one.mode ∙ inside))
 

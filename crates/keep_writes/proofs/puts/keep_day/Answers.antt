@@ -8,9 +8,9 @@ use Rattle.sqlite.specs.Steps.{FailsToCommit}
 use Rattle.keep_tables.specs.Codec.{day_values}
 use Rattle.keep_tables.specs.Texts.{put_day}
 use Rattle.keep_writes.specs.Causes.{RefusedOf, WritesSome}
-use Rattle.keep_writes.specs.Writes.{WritesDay}
+use Rattle.keep_writes.specs.Writes.{WritesDay, day_texts}
 use Rattle.keep_writes.specs.Runs.{CommitsRun}
-use Rattle.keep_writes.proofs.RunLaws.{ran_begun}
+use Rattle.keep_writes.proofs.RunLaws.{commits_begun}
 use Rattle.keep_writes.proofs.CauseLaws.{err_then, err_handed, on_then, commit_refused}
 use Rattle.keep_writes.proofs.CauseLaws.{refused_begun}
 use Rattle.keep_writes.proofs.puts.keep_day.Goals as goal
@@ -84,9 +84,6 @@ returns-clause-wrote g c clean settled =
     let late : HasCleanDisk (state g.S.Store end) = subst (λ h. HasCleanDisk (state g.S.Store h)) (sym same) clean in
     let early : HasCleanDisk (state g.S.Store last) = omega (arith, late, c.commit.ensures.survives.clean) in
     on_then c.commit.result _ _ (c.commit.ensures.ok late)
-    (λ h. subst (λ k. CommitsRun g.S.Store (WritesDay c.args.kept.now c.args.rows.now) c.args.conn.now k) same (record {
-      last = last;
-      ran = ran_begun g.S.Store (WritesDay c.args.kept.now c.args.rows.now) c.args.conn.now last settled
-          ((rw begun at (c.in_ok-write_day.ensures.ran early)) refl);
-      committed = h.1.committed_is;
-    }))
+    (λ h. subst (λ k. CommitsRun g.S.Store (day_texts c.args.kept.now c.args.rows.now) c.args.conn.now k) same
+    (commits_begun g.S.Store (day_texts c.args.kept.now c.args.rows.now) c.args.conn.now last end settled
+    ((rw begun at (c.in_ok-write_day.ensures.ran early)) refl) h.1.committed_is))

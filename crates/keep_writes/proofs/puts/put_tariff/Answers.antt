@@ -7,7 +7,7 @@ use Rattle.keep_tables.proofs.CrashLaws.{put_survives}
 use Rattle.keep_office.specs.Kept.{with_tariff_of}
 use Rattle.keep_tables.specs.Stands.{HasOffice}
 use Rattle.keep_writes.specs.Causes.{IsTold}
-use Rattle.keep_writes.specs.Writes.{WritesTariff}
+use Rattle.keep_writes.specs.Writes.{WritesTariff, tariff_texts}
 use Rattle.keep_writes.proofs.RunLaws.{commits_after}
 use Rattle.keep_writes.proofs.CauseLaws.{cause_of, refused_after, refused_idle}
 use Rattle.keep_tables.proofs.StepLaws.{kept_then}
@@ -88,5 +88,5 @@ pub returns-in-Ok-clause-wrote : goal.returns-in-Ok-clause-wrote
 returns-in-Ok-clause-wrote g c clean =
     let mid = state g.S.Store c.settle.new.conn in
     let early : HasCleanDisk mid = omega (arith, c.replace.ensures.crash.clean) in
-    commits_after g.S.Store (WritesTariff c.args.xway c.args.tariff.now) c.args.conn.now c.settle.new.conn c.replace.new.conn (c.settle.ensures.kept early)
+    commits_after g.S.Store (tariff_texts c.args.xway c.args.tariff.now) c.args.conn.now c.settle.new.conn c.replace.new.conn (c.settle.ensures.kept early)
     (c.in-Ok.ensures.wrote clean (c.in_default.ensures.settled early))

@@ -8,9 +8,9 @@ use Rattle.sqlite.specs.Steps.{FailsToCommit}
 use Rattle.sqlite_value.specs.declared.value.Value.TheVariants.{Int}
 use Rattle.keep_tables.specs.Texts.{drop_tariff}
 use Rattle.keep_writes.specs.Causes.{RefusedOf, WritesSome}
-use Rattle.keep_writes.specs.Writes.{WritesTariff}
+use Rattle.keep_writes.specs.Writes.{WritesTariff, tariff_texts}
 use Rattle.keep_writes.specs.Runs.{CommitsRun}
-use Rattle.keep_writes.proofs.RunLaws.{ran_begun}
+use Rattle.keep_writes.proofs.RunLaws.{commits_begun}
 use Rattle.keep_writes.proofs.CauseLaws.{err_then, err_handed, on_then, commit_refused}
 use Rattle.keep_writes.proofs.CauseLaws.{refused_begun}
 use Rattle.keep_writes.proofs.puts.replace.Goals as goal
@@ -84,9 +84,6 @@ returns-clause-wrote g c clean settled =
     let late : HasCleanDisk (state g.S.Store end) = subst (λ h. HasCleanDisk (state g.S.Store h)) (sym same) clean in
     let early : HasCleanDisk (state g.S.Store last) = omega (arith, late, c.commit.ensures.survives.clean) in
     on_then c.commit.result _ _ (c.commit.ensures.ok late)
-    (λ h. subst (λ k. CommitsRun g.S.Store (WritesTariff c.args.xway c.args.tariff.now) c.args.conn.now k) same (record {
-      last = last;
-      ran = ran_begun g.S.Store (WritesTariff c.args.xway c.args.tariff.now) c.args.conn.now last settled
-          ((rw begun at (c.in_ok-write.ensures.ran early)) refl);
-      committed = h.1.committed_is;
-    }))
+    (λ h. subst (λ k. CommitsRun g.S.Store (tariff_texts c.args.xway c.args.tariff.now) c.args.conn.now k) same
+    (commits_begun g.S.Store (tariff_texts c.args.xway c.args.tariff.now) c.args.conn.now last end settled
+    ((rw begun at (c.in_ok-write.ensures.ran early)) refl) h.1.committed_is))

@@ -1,4 +1,4 @@
-use Rattle.std.proofs.Common.{◌≡◌, ◌<◌, pos, [], List, Some, inl, inr, take, get_or, length, sym, ap, subst, ◌∙◌, arith}
+use Rattle.std.proofs.Common.{◌≡◌, ◌<◌, pos, [], ◌∷◌, ◌++◌, List, Some, inl, inr, take, get_or, length, sym, ap, subst, ◌∙◌, arith}
 use Rattle.std.proofs.lemmas.List.{take_more}
 use Rattle.sqlite_value.specs.declared.value.Value.TheVariants.{Int}
 use Rattle.sqlite_value.specs.Order.{Row, column}
@@ -12,7 +12,8 @@ use Rattle.keep_writes.proofs.GrowLaws.{days_under, row_of_day, seal_at, no_day,
 use Rattle.std.proofs.lemmas.Option.{slice_get-get_or}
 use Rattle.keep_tables.proofs.StepLaws.{kept_then}
 use Rattle.keep_writes.proofs.CauseLaws.{err_handed, kept_inside, survives_self}
-use Rattle.keep_writes.proofs.UnmadeRuns.{seals_next, seals_all}
+use Rattle.keep_writes.proofs.UnmadeRuns.{seals_next}
+use Rattle.keep_writes.specs.Unmade.{SealsEach}
 use Rattle.keep_writes.proofs.seals.seal_days.Goals as goal
 
 pub days-preserved : goal.days-preserved
@@ -48,11 +49,15 @@ days-preserved g c =
           (sym (take_more o.days i no_day at.0)) put,
       λ clean inside. kept_then old mid new (kept.5 (before clean) inside)
           (kept_inside mid new (c.in_ok-put_seal.ensures.inside clean (kept.2 (before clean) inside))),
-      λ clean inside. seals_next g.S.Store c.args.seal.now c.args.days.now c.days.row-index c.row-item.result
+      λ clean inside.
+          subst (λ (l : List Row). SealsEach g.S.Store c.args.seal.now l c.args.tx.now.conn.now
+          c.put_seal.new.tx.conn.now)
+          (sym (take_more c.args.days.now c.days.row-index c.row-item.result c.days-test.true
+          ∙ ap (λ (r : Row). take c.days.row-index c.args.days.now ++ r ∷ []) (sym c.row-item.is)))
+          (seals_next g.S.Store c.args.seal.now (take c.days.row-index c.args.days.now) c.row-item.result
           c.in_ok-day.day c.args.tx.now.conn.now c.days.tx.conn.now c.put_seal.new.tx.conn.now
-          (slice_get-get_or c.args.days.now c.days.row-index c.row-item.result c.days-test.true
-          ∙ ap Some (sym c.row-item.is)) c.in_ok-day.ensures.number (kept.6 (before clean) inside)
-          (c.in_ok-put_seal.ensures.ran clean (kept.2 (before clean) inside)),
+          c.in_ok-day.ensures.number (kept.6 (before clean) inside)
+          (c.in_ok-put_seal.ensures.ran clean (kept.2 (before clean) inside))),
     )
 
 pub returns-in_err-day-clause-refused : goal.returns-in_err-day-clause-refused
@@ -105,8 +110,3 @@ returns-in_err-put_seal-clause-refused g c clean inside =
       reached = kept.1;
       left = survives_self (state g.S.Store c.put_seal.new.tx.conn.now);
     })
-
-pub returns-clause-texts : goal.returns-clause-texts
-returns-clause-texts g c clean inside =
-    seals_all g.S.Store c.args.seal.now c.args.days.now c.days.row-index c.args.tx.now.conn.now c.days.tx.conn.now
-    (c.days.invariant.6 clean inside)

@@ -6,8 +6,7 @@ use Rattle.keep_office.specs.Office.{Office}
 use Rattle.keep_tables.specs.Shown.{number_columns}
 use Rattle.keep_tables.specs.Stands.{HoldsAs, contents_of}
 use Rattle.keep_writes.specs.Growth.{IsUnsealed}
-use Rattle.keep_writes.specs.Runs.{Ran}
-use Rattle.keep_writes.specs.Unmade.{WritesSeals}
+use Rattle.keep_writes.specs.Unmade.{SealsEach}
 use Rattle.keep_writes.proofs.seals.seal_days.Given as goal
 
 -- the days so far have their seals
@@ -23,5 +22,5 @@ invariant-days g l =
     l.days ≡ map number_columns o.days
     → HoldsAs [] now.now (record (contents_of o) { sealed = take l.row-index o.days }))
     × (HasCleanDisk now → IsTrue old.in_transaction → KeepsCommit old now)
-    × (HasCleanDisk now → IsTrue old.in_transaction → Ran g.S.Store (WritesSeals l.seal l.days l.row-index)
+    × (HasCleanDisk now → IsTrue old.in_transaction → SealsEach g.S.Store l.seal (take l.row-index l.days)
     l.fn.tx.conn.now l.tx.conn.now)

@@ -1,4 +1,4 @@
-use Rattle.std.proofs.Common.{[], List, length, ◌∙◌, inl, inr, sym, subst, subst₂, IsTrue, arith}
+use Rattle.std.proofs.Common.{[], List, ◌∙◌, inl, inr, sym, subst, subst₂, IsTrue, arith}
 use Rattle.sqlite.specs.Effect.{Database}
 use Rattle.sqlite.specs.Held.{state}
 use Rattle.sqlite.specs.State.{HasCleanDisk}
@@ -8,10 +8,10 @@ use Rattle.keep_writes.specs.Growth.{IsUnsealed}
 use Rattle.keep_writes.proofs.CauseLaws.{err_handed, err_then}
 use Rattle.sqlite_value.specs.Order.{Row}
 use Rattle.road_digest.specs.declared.digest.Digest.{Digest}
-use Rattle.keep_writes.specs.Runs.{Ran}
-use Rattle.keep_writes.specs.Unmade.{WritesSeals, RefusesSeals, EndsTables, EndsInside}
+use Rattle.keep_writes.specs.Unmade.{SealsEach, RefusesSeals, EndsTables, EndsInside}
 use Rattle.keep_writes.proofs.GrowLaws.{on_ok}
-use Rattle.keep_writes.proofs.UnmadeRuns.{each_none, step_now, days_sealed, seals_end}
+use Rattle.keep_writes.proofs.UnmadeRuns.{step_now, days_sealed, seals_end}
+use Rattle.keep_writes.proofs.RunLaws.{all_none}
 use Rattle.keep_writes.proofs.seals.seal_tables.Goals as goal
 
 pub returns-clause-seals : goal.returns-clause-seals
@@ -31,7 +31,7 @@ returns-in_err-seal-clause-refused g c clean inside =
     let old = c.args.tx.now.conn.now in
     err_handed c.from_residual.result c.in_err-seal.field-0.0 _ c.from_residual.ensures.1
     (step_now g.S.Store (EndsTables g.S.Store []) old old _ inside
-    (inr (inl (each_none g.S.Store old, inl c.in_err-seal.ensures.memory))))
+    (inr (inl (all_none g.S.Store old, inl c.in_err-seal.ensures.memory))))
 
 pub returns-in_err-days-clause-refused : goal.returns-in_err-days-clause-refused
 returns-in_err-days-clause-refused g c clean inside =
@@ -39,7 +39,7 @@ returns-in_err-days-clause-refused g c clean inside =
     let mid = c.all_days.new.tx.conn.now in
     err_handed c.from_residual-in_err-days.result c.in_err-days.field-0.0 _ c.from_residual-in_err-days.ensures.1
     (step_now g.S.Store (EndsTables g.S.Store []) old mid _ inside
-    (inr (inl (each_none g.S.Store old, inr (c.in_err-days.ensures.refused clean inside)))))
+    (inr (inl (all_none g.S.Store old, inr (c.in_err-days.ensures.refused clean inside)))))
 
 pub returns-clause-refused : goal.returns-clause-refused
 returns-clause-refused g c clean inside =
@@ -65,5 +65,5 @@ returns-clause-texts g c clean inside =
     let within : IsTrue (state g.S.Store mid).in_transaction = (c.in_ok-days.ensures.same early).0.mode ∙ inside in
     on_ok c.seal_days.result _ _ (c.seal_days.ensures.texts clean within)
     (λ ran. days_sealed g.S.Store rows old mid new (c.in_ok-days.ensures.shown early)
-    (subst₂ (λ (d : Digest) (l : List Row). Ran g.S.Store (WritesSeals d l (length l)) mid new)
+    (subst₂ (λ (d : Digest) (l : List Row). SealsEach g.S.Store d l mid new)
     c.in_ok-seal.ensures.sealed c.deref.ensures.value ran))

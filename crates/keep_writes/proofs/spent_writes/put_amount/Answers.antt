@@ -2,8 +2,8 @@ use Rattle.std.proofs.Common.{◌≡◌, to_z, of_z, w64, rules, refl}
 use Rattle.sqlite.specs.Held.{state}
 use Rattle.keep_tables.specs.Texts.{put_spent}
 use Rattle.keep_tables.proofs.SpentWriteLaws.{spent_edit, spent_put}
-use Rattle.keep_writes.specs.Writes.{WritesAmount}
-use Rattle.keep_writes.proofs.CauseLaws.{text_refused, text_ran, not_spent}
+use Rattle.keep_writes.proofs.RunLaws.{all_once}
+use Rattle.keep_writes.proofs.CauseLaws.{text_refused, not_spent}
 use Rattle.keep_writes.proofs.spent_writes.put_amount.Goals as goal
 
 pub returns-in-Ok-clause-adds : goal.returns-in-Ok-clause-adds
@@ -56,8 +56,7 @@ returns-in-Ok-clause-ran g c clean inside =
       whole,
       c.requires.stored,
     ) at (c.in-Ok.ensures.runs clean inside) in
-    text_ran g.S.Store (WritesAmount c.args.row.now) c.args.tx.now.conn.now c.execute.new.self.conn.now put_spent _
-    c.in-Ok.field-0 (refl, refl) inside ran
+    all_once g.S.Store c.args.tx.now.conn.now c.execute.new.self.conn.now put_spent _ c.in-Ok.field-0 inside ran
 
 pub returns-in-Ok-clause-fits : goal.returns-in-Ok-clause-fits
 returns-in-Ok-clause-fits g c = (search rules, search rules, search rules, c.requires.small)

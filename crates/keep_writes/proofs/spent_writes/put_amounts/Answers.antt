@@ -1,4 +1,4 @@
-use Rattle.std.proofs.Common.{[], ◌∷◌, take, get_or, sym, subst, ◌∙◌, arith}
+use Rattle.std.proofs.Common.{[], ◌∷◌, List, map, take, get_or, refl, sym, subst, ◌∙◌, arith}
 use Rattle.std.proofs.lemmas.List.{take_more}
 use Rattle.std.specs.List.{AllByRecursion}
 use Rattle.sqlite_keyed.proofs.ListLemmas.{all-append}
@@ -12,8 +12,9 @@ use Rattle.keep_tables.proofs.SpentWriteLaws.{adds_then}
 use Rattle.keep_tables.proofs.PutLaws.{shows_then}
 use Rattle.keep_tables.proofs.StepLaws.{kept_then}
 use Rattle.std.proofs.lemmas.Option.{slice_get-get_or}
-use Rattle.keep_writes.specs.Writes.{WritesAmount, WritesAmounts}
-use Rattle.keep_writes.proofs.RunLaws.{ran_then, ran_wider}
+use Rattle.keep_writes.specs.Runs.{RanAll}
+use Rattle.keep_writes.specs.Writes.{WritesAmount, WritesAmounts, amount_text}
+use Rattle.keep_writes.proofs.RunLaws.{ran_of, ran_then, ran_wider, amounts_next}
 use Rattle.keep_writes.proofs.CauseLaws.{err_handed, kept_inside, inside_after, inside_wider}
 use Rattle.keep_writes.proofs.spent_writes.put_amounts.Goals as goal
 
@@ -58,8 +59,15 @@ rows-preserved g c =
             row = row;
             is_one = slice_get-get_or c.args.rows.now c.rows.row-index none c.rows-test.true;
             is_put = is;
-          }) c.rows.tx.conn.now
-          c.put_amount.new.tx.conn.now (c.in_ok-put_amount.ensures.ran clean (kept.2 (before clean) inside))),
+          }) c.rows.tx.conn.now c.put_amount.new.tx.conn.now
+          (ran_of g.S.Store (WritesAmount row) (amount_text row ∷ []) ((refl, refl), tt) c.rows.tx.conn.now
+          c.put_amount.new.tx.conn.now (c.in_ok-put_amount.ensures.ran clean (kept.2 (before clean) inside)))),
+      λ clean inside.
+          subst (λ (l : List SpentRow). RanAll g.S.Store (map amount_text l) c.args.tx.now.conn.now
+          c.put_amount.new.tx.conn.now) (sym more)
+          (amounts_next g.S.Store (take c.rows.row-index c.args.rows.now) row c.args.tx.now.conn.now
+          c.rows.tx.conn.now c.put_amount.new.tx.conn.now (kept.8 (before clean) inside)
+          (c.in_ok-put_amount.ensures.ran clean (kept.2 (before clean) inside))),
     )
 
 pub returns-in_err-put_amount-clause-refused : goal.returns-in_err-put_amount-clause-refused

@@ -1,12 +1,12 @@
-use Rattle.std.proofs.Common.{◌≡◌, take, IsTrue}
+use Rattle.std.proofs.Common.{◌≡◌, map, take, IsTrue}
 use Rattle.sqlite.specs.State.{HasCleanDisk, Survives, Shows, KeepsCommit}
 use Rattle.sqlite.specs.Held.{state}
 use Rattle.std.specs.List.{AllByRecursion}
 use Rattle.keep_tables.specs.Stands.{FitsSpent}
 use Rattle.keep_tables.specs.Layout.{all_tables}
 use Rattle.keep_tables.specs.Steps.{AddsAmounts}
-use Rattle.keep_writes.specs.Runs.{Ran}
-use Rattle.keep_writes.specs.Writes.{WritesAmounts}
+use Rattle.keep_writes.specs.Runs.{Ran, RanAll}
+use Rattle.keep_writes.specs.Writes.{WritesAmounts, amount_text}
 use Rattle.keep_writes.proofs.spent_writes.put_amounts.Given as goal
 
 abbrev pub invariant-rows : goal.invariant-rows
@@ -22,3 +22,5 @@ invariant-rows g l =
     × AllByRecursion FitsSpent (take l.row-index l.rows)
     × (HasCleanDisk now → IsTrue old.in_transaction → KeepsCommit old now)
     × (HasCleanDisk now → IsTrue old.in_transaction → Ran g.S.Store (WritesAmounts l.rows) l.fn.tx.conn.now l.tx.conn.now)
+    × (HasCleanDisk now → IsTrue old.in_transaction →
+    RanAll g.S.Store (map amount_text (take l.row-index l.rows)) l.fn.tx.conn.now l.tx.conn.now)

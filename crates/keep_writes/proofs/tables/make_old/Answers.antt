@@ -6,7 +6,8 @@ use Rattle.keep_tables.specs.Texts.{make_days, make_spent, make_past}
 use Rattle.keep_tables.proofs.PutLaws.{shows_then, survives_both}
 use Rattle.keep_writes.specs.Unmade.{old_texts, RefusesEach}
 use Rattle.keep_writes.proofs.CauseLaws.{err_handed, err_then}
-use Rattle.keep_writes.proofs.UnmadeRuns.{text_done, each_none, each_first, step_now, behind_ends}
+use Rattle.keep_writes.proofs.UnmadeRuns.{text_done, step_now, behind_ends}
+use Rattle.keep_writes.proofs.RunLaws.{all_none, all_first}
 use Rattle.keep_writes.proofs.tables.make_old.Goals as goal
 
 pub returns-clause-made : goal.returns-clause-made
@@ -31,10 +32,10 @@ returns-in_err-run-clause-refused g c clean inside =
     (step_now g.S.Store (RefusesEach g.S.Store old_texts) s0 s1 _ inside
     (record {
       done = [];
-      text = make_days;
-      rest = make_spent ∷ make_past ∷ [];
+      text = (make_days, []);
+      rest = (make_spent, []) ∷ (make_past, []) ∷ [];
       is = refl;
-      ran = each_none g.S.Store s0;
+      ran = all_none g.S.Store s0;
       refused = c.in_err-run.ensures.refused clean inside;
     }))
 
@@ -49,11 +50,11 @@ returns-in_err-run-2-clause-refused g c clean inside =
     err_handed c.from_residual-in_err-run-2.result c.in_err-run-2.field-0.0 _ c.from_residual-in_err-run-2.ensures.1
     (behind_ends g.S.Store (RefusesEach g.S.Store old_texts) s0 s1 s2 _ (one.mode ∙ inside) one c.run.ensures.survives
     (record {
-      done = make_days ∷ [];
-      text = make_spent;
-      rest = make_past ∷ [];
+      done = (make_days, []) ∷ [];
+      text = (make_spent, []);
+      rest = (make_past, []) ∷ [];
       is = refl;
-      ran = each_first g.S.Store s0 s1 s1 make_days [] first (each_none g.S.Store s1);
+      ran = all_first g.S.Store s0 s1 s1 (make_days, []) [] first (all_none g.S.Store s1);
       refused = c.in_err-run-2.ensures.refused clean (one.mode ∙ inside);
     }))
 
@@ -76,12 +77,12 @@ returns-clause-refused g c clean inside =
     (survives_both (state g.S.Store s0) (state g.S.Store s1) (state g.S.Store s2) c.run.ensures.survives
     c.run-2.ensures.survives)
     (record {
-      done = make_days ∷ make_spent ∷ [];
-      text = make_past;
+      done = (make_days, []) ∷ (make_spent, []) ∷ [];
+      text = (make_past, []);
       rest = [];
       is = refl;
-      ran = each_first g.S.Store s0 s1 s2 make_days (make_spent ∷ []) first
-          (each_first g.S.Store s1 s2 s2 make_spent [] second (each_none g.S.Store s2));
+      ran = all_first g.S.Store s0 s1 s2 (make_days, []) ((make_spent, []) ∷ []) first
+          (all_first g.S.Store s1 s2 s2 (make_spent, []) [] second (all_none g.S.Store s2));
       refused = fails;
     }))
 
@@ -99,7 +100,7 @@ returns-clause-texts g c clean inside =
     let second =
     text_done g.S.Store s1 s2 make_spent (one.mode ∙ inside) (c.in_ok-run-2.ensures.within late (one.mode ∙ inside)) in
     on_ok c.run-3.result _ _ (c.run-3.ensures.within clean (two.mode ∙ (one.mode ∙ inside)))
-    (λ ran. each_first g.S.Store s0 s1 s3 make_days (make_spent ∷ make_past ∷ []) first
-    (each_first g.S.Store s1 s2 s3 make_spent (make_past ∷ []) second
-    (each_first g.S.Store s2 s3 s3 make_past []
-    (text_done g.S.Store s2 s3 make_past (two.mode ∙ (one.mode ∙ inside)) ran) (each_none g.S.Store s3))))
+    (λ ran. all_first g.S.Store s0 s1 s3 (make_days, []) ((make_spent, []) ∷ (make_past, []) ∷ []) first
+    (all_first g.S.Store s1 s2 s3 (make_spent, []) ((make_past, []) ∷ []) second
+    (all_first g.S.Store s2 s3 s3 (make_past, []) []
+    (text_done g.S.Store s2 s3 make_past (two.mode ∙ (one.mode ∙ inside)) ran) (all_none g.S.Store s3))))

@@ -6,7 +6,8 @@ use Rattle.keep_tables.specs.Texts.{make_day_tariffs, make_tariffs, make_form}
 use Rattle.keep_tables.proofs.PutLaws.{shows_then, survives_both}
 use Rattle.keep_writes.specs.Unmade.{new_texts, RefusesEach}
 use Rattle.keep_writes.proofs.CauseLaws.{err_handed, err_then}
-use Rattle.keep_writes.proofs.UnmadeRuns.{text_done, each_none, each_first, step_now, behind_ends}
+use Rattle.keep_writes.proofs.UnmadeRuns.{text_done, step_now, behind_ends}
+use Rattle.keep_writes.proofs.RunLaws.{all_none, all_first}
 use Rattle.keep_writes.proofs.tables.make_rest.Goals as goal
 
 pub returns-clause-made : goal.returns-clause-made
@@ -31,10 +32,10 @@ returns-in_err-run-clause-refused g c clean inside =
     (step_now g.S.Store (RefusesEach g.S.Store new_texts) s0 s1 _ inside
     (record {
       done = [];
-      text = make_day_tariffs;
-      rest = make_tariffs ∷ make_form ∷ [];
+      text = (make_day_tariffs, []);
+      rest = (make_tariffs, []) ∷ (make_form, []) ∷ [];
       is = refl;
-      ran = each_none g.S.Store s0;
+      ran = all_none g.S.Store s0;
       refused = c.in_err-run.ensures.refused clean inside;
     }))
 
@@ -49,11 +50,11 @@ returns-in_err-run-2-clause-refused g c clean inside =
     err_handed c.from_residual-in_err-run-2.result c.in_err-run-2.field-0.0 _ c.from_residual-in_err-run-2.ensures.1
     (behind_ends g.S.Store (RefusesEach g.S.Store new_texts) s0 s1 s2 _ (one.mode ∙ inside) one c.run.ensures.survives
     (record {
-      done = make_day_tariffs ∷ [];
-      text = make_tariffs;
-      rest = make_form ∷ [];
+      done = (make_day_tariffs, []) ∷ [];
+      text = (make_tariffs, []);
+      rest = (make_form, []) ∷ [];
       is = refl;
-      ran = each_first g.S.Store s0 s1 s1 make_day_tariffs [] first (each_none g.S.Store s1);
+      ran = all_first g.S.Store s0 s1 s1 (make_day_tariffs, []) [] first (all_none g.S.Store s1);
       refused = c.in_err-run-2.ensures.refused clean (one.mode ∙ inside);
     }))
 
@@ -77,12 +78,12 @@ returns-clause-refused g c clean inside =
     (survives_both (state g.S.Store s0) (state g.S.Store s1) (state g.S.Store s2) c.run.ensures.survives
     c.run-2.ensures.survives)
     (record {
-      done = make_day_tariffs ∷ make_tariffs ∷ [];
-      text = make_form;
+      done = (make_day_tariffs, []) ∷ (make_tariffs, []) ∷ [];
+      text = (make_form, []);
       rest = [];
       is = refl;
-      ran = each_first g.S.Store s0 s1 s2 make_day_tariffs (make_tariffs ∷ []) first
-          (each_first g.S.Store s1 s2 s2 make_tariffs [] second (each_none g.S.Store s2));
+      ran = all_first g.S.Store s0 s1 s2 (make_day_tariffs, []) ((make_tariffs, []) ∷ []) first
+          (all_first g.S.Store s1 s2 s2 (make_tariffs, []) [] second (all_none g.S.Store s2));
       refused = fails;
     }))
 
@@ -101,7 +102,7 @@ returns-clause-texts g c clean inside =
     text_done g.S.Store s1 s2 make_tariffs (one.mode ∙ inside)
     (c.in_ok-run-2.ensures.within late (one.mode ∙ inside)) in
     on_ok c.run-3.result _ _ (c.run-3.ensures.within clean (two.mode ∙ (one.mode ∙ inside)))
-    (λ ran. each_first g.S.Store s0 s1 s3 make_day_tariffs (make_tariffs ∷ make_form ∷ []) first
-    (each_first g.S.Store s1 s2 s3 make_tariffs (make_form ∷ []) second
-    (each_first g.S.Store s2 s3 s3 make_form []
-    (text_done g.S.Store s2 s3 make_form (two.mode ∙ (one.mode ∙ inside)) ran) (each_none g.S.Store s3))))
+    (λ ran. all_first g.S.Store s0 s1 s3 (make_day_tariffs, []) ((make_tariffs, []) ∷ (make_form, []) ∷ []) first
+    (all_first g.S.Store s1 s2 s3 (make_tariffs, []) ((make_form, []) ∷ []) second
+    (all_first g.S.Store s2 s3 s3 (make_form, []) []
+    (text_done g.S.Store s2 s3 make_form (two.mode ∙ (one.mode ∙ inside)) ran) (all_none g.S.Store s3))))

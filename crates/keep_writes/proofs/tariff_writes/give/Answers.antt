@@ -2,8 +2,8 @@ use Rattle.std.proofs.Common.{refl}
 use Rattle.sqlite.specs.Held.{state}
 use Rattle.keep_tables.specs.Texts.{put_tariff}
 use Rattle.keep_tables.proofs.TariffWriteLaws.{put_writes}
-use Rattle.keep_writes.specs.Writes.{WritesGiven}
-use Rattle.keep_writes.proofs.CauseLaws.{text_refused, text_ran}
+use Rattle.keep_writes.proofs.RunLaws.{all_once}
+use Rattle.keep_writes.proofs.CauseLaws.{text_refused}
 use Rattle.keep_writes.proofs.tariff_writes.give.Goals as goal
 
 pub returns-in-Ok-clause-gave : goal.returns-in-Ok-clause-gave
@@ -45,5 +45,4 @@ returns-in-Ok-clause-ran g c clean inside =
       c.from-2.ensures,
       c.from-3.ensures,
     ) at (c.in-Ok.ensures.runs clean inside) in
-    text_ran g.S.Store (WritesGiven c.args.xway c.args.tariff.now) c.args.tx.now.conn.now c.execute.new.self.conn.now put_tariff _
-    c.in-Ok.field-0 (refl, refl) inside ran
+    all_once g.S.Store c.args.tx.now.conn.now c.execute.new.self.conn.now put_tariff _ c.in-Ok.field-0 inside ran

@@ -2,9 +2,8 @@ use Rattle.std.proofs.Common.{refl}
 use Rattle.sqlite.specs.Held.{state}
 use Rattle.keep_tables.specs.Texts.{drop_tariff}
 use Rattle.keep_tables.proofs.TariffWriteLaws.{drop_writes}
-use Rattle.keep_writes.proofs.RunLaws.{sees_self}
-use Rattle.keep_writes.specs.Writes.{WritesTaken}
-use Rattle.keep_writes.proofs.CauseLaws.{text_refused, text_ran, not_drop}
+use Rattle.keep_writes.proofs.RunLaws.{sees_self, all_once}
+use Rattle.keep_writes.proofs.CauseLaws.{text_refused, not_drop}
 use Rattle.keep_writes.proofs.tariff_writes.take.Goals as goal
 
 pub returns-in-Ok-clause-took : goal.returns-in-Ok-clause-took
@@ -21,8 +20,7 @@ returns-in-Err-clause-refused g c clean inside =
 pub returns-in-Ok-clause-ran : goal.returns-in-Ok-clause-ran
 returns-in-Ok-clause-ran g c clean inside =
     let ran = rw (c.params-to_sql.ensures, c.from.ensures) at (c.in-Ok.ensures.runs clean inside) in
-    text_ran g.S.Store (WritesTaken c.args.xway) c.args.tx.now.conn.now c.execute.new.self.conn.now drop_tariff _
-    c.in-Ok.field-0 (refl, refl) inside ran
+    all_once g.S.Store c.args.tx.now.conn.now c.execute.new.self.conn.now drop_tariff _ c.in-Ok.field-0 inside ran
 
 pub returns-in-Ok-clause-dropped : goal.returns-in-Ok-clause-dropped
 returns-in-Ok-clause-dropped g c clean inside =

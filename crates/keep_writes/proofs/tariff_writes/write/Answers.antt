@@ -1,4 +1,4 @@
-use Rattle.std.proofs.Common.{◌≡◌, false, sym, subst, ◌∙◌, arith, inl, inr, OnOk, IsTrue}
+use Rattle.std.proofs.Common.{◌≡◌, [], ◌∷◌, Bool, true, false, refl, sym, subst, ◌∙◌, arith, inl, inr, OnOk, IsTrue}
 use Rattle.sqlite.specs.Held.{state}
 use Rattle.sqlite.specs.State.{HasCleanDisk}
 use Rattle.road_time.specs.Rates.{benchmark, same_tariff}
@@ -6,8 +6,9 @@ use Rattle.keep_office.specs.Kept.{with_tariff_of}
 use Rattle.keep_office.specs.Office.{Office}
 use Rattle.keep_tables.specs.Stands.{HasOffice}
 use Rattle.keep_tables.proofs.TariffWriteLaws.{set_after_taken}
-use Rattle.keep_writes.specs.Writes.{WritesTariff, WritesTaken, WritesGiven}
-use Rattle.keep_writes.proofs.RunLaws.{ran_wider}
+use Rattle.keep_writes.specs.Runs.{RanAll}
+use Rattle.keep_writes.specs.Writes.{WritesTariff, WritesTaken, WritesGiven, taken_text, given_text, given_texts}
+use Rattle.keep_writes.proofs.RunLaws.{ran_of}
 use Rattle.keep_writes.proofs.CauseLaws.{err_handed, errs_inside, inside_wider, both_ran}
 use Rattle.keep_writes.proofs.tariff_writes.write.Goals as goal
 
@@ -38,8 +39,8 @@ returns-clause-refused g c clean inside =
     let one = c.in_ok-take.ensures.inside early inside in
     errs_inside g.S.Store (WritesGiven c.args.xway c.args.tariff.now) (WritesTariff c.args.xway c.args.tariff.now)
     (λ sql params is. inr is) c.args.tx.now.conn.now c.take.new.tx.conn.now c.give.new.tx.conn.now c.give.result
-    (ran_wider g.S.Store (WritesTaken c.args.xway) (WritesTariff c.args.xway c.args.tariff.now)
-    (λ sql params is. inl is) c.args.tx.now.conn.now c.take.new.tx.conn.now (c.in_ok-take.ensures.ran early inside))
+    (ran_of g.S.Store (WritesTariff c.args.xway c.args.tariff.now) (taken_text c.args.xway ∷ [])
+    (inl (refl, refl), tt) c.args.tx.now.conn.now c.take.new.tx.conn.now (c.in_ok-take.ensures.ran early inside))
     one
     c.take.ensures.survives
     (c.give.ensures.refused clean (one.mode ∙ inside) (c.in_ok-take.ensures.dropped early inside))
@@ -49,12 +50,16 @@ returns-clause-ran g c clean inside =
     let mid = state g.S.Store c.take.new.tx.conn.now in
     let early : HasCleanDisk mid = omega (arith, c.give.ensures.survives.clean) in
     let one = c.in_ok-take.ensures.inside early inside in
-    both_ran g.S.Store (WritesTaken c.args.xway) (WritesGiven c.args.xway c.args.tariff.now)
-    (WritesTariff c.args.xway c.args.tariff.now) (λ sql params is. inl is) (λ sql params is. inr is)
+    let own : same_tariff c.args.tariff.now benchmark ≡ false = sym c.eq.ensures ∙ c.if-eq.false in
+    subst (λ (b : Bool). OnOk c.give.result (RanAll g.S.Store
+    (taken_text c.args.xway ∷ given_texts c.args.xway c.args.tariff.now b) c.args.tx.now.conn.now
+    c.give.new.tx.conn.now)) (sym own)
+    (both_ran g.S.Store (taken_text c.args.xway ∷ []) (given_text c.args.xway c.args.tariff.now ∷ [])
     c.args.tx.now.conn.now c.take.new.tx.conn.now c.give.new.tx.conn.now c.give.result
-    (c.in_ok-take.ensures.ran early inside) (c.give.ensures.ran clean (one.mode ∙ inside))
+    (c.in_ok-take.ensures.ran early inside) (c.give.ensures.ran clean (one.mode ∙ inside)))
 
 pub returns-then-eq-clause-ran : goal.returns-then-eq-clause-ran
 returns-then-eq-clause-ran g c clean inside =
-    ran_wider g.S.Store (WritesTaken c.args.xway) (WritesTariff c.args.xway c.args.tariff.now)
-    (λ sql params is. inl is) c.args.tx.now.conn.now c.take.new.tx.conn.now (c.in_ok-take.ensures.ran clean inside)
+    let own : same_tariff c.args.tariff.now benchmark ≡ true = sym c.eq.ensures ∙ c.if-eq.true in
+    subst (λ (b : Bool). RanAll g.S.Store (taken_text c.args.xway ∷ given_texts c.args.xway c.args.tariff.now b)
+    c.args.tx.now.conn.now c.take.new.tx.conn.now) (sym own) (c.in_ok-take.ensures.ran clean inside)

@@ -46,3 +46,6 @@ returns-clause-version g c clean = rw c.count.ensures.same (c.past-answer.ensure
 pub returns-clause-memory : goal.returns-clause-memory
 returns-clause-memory g c clean o stands none =
     c.past-answer.ensures.memory clean o stands (sym c.count.ensures.same ∙ none)
+
+pub returns-clause-shows : goal.returns-clause-shows
+returns-clause-shows g c clean = rw c.count.ensures.same (c.past-answer.ensures.shows clean)

@@ -47,3 +47,6 @@ returns-clause-memory g c clean o stands none =
 
 pub returns-clause-version : goal.returns-clause-version
 returns-clause-version g c clean = rw c.count.ensures.same (c.spent-answer.ensures.version clean)
+
+pub returns-clause-shows : goal.returns-clause-shows
+returns-clause-shows g c clean = rw c.count.ensures.same (c.spent-answer.ensures.shows clean)
