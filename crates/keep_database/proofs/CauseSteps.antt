@@ -32,7 +32,7 @@ module _ {S : Type 0} (g : Ghosts S) (old mid new : Held S) (kept : KeepsCommit 
   wants_after there (inr h) = inr h
 
   -- so is each fault's cause, whatever the call writes
-  pub cause_after : (W : List ℕ → Row → Type 0) (f : KeepFault) → HasCauseOf g W mid new f → HasCauseOf g W old new f
+  pub cause_after : (W : List (List ℕ × Row)) (f : KeepFault) → HasCauseOf g W mid new f → HasCauseOf g W old new f
   cause_after W Failed h = record {
     error = h.error;
     cause = h.cause;
@@ -41,7 +41,7 @@ module _ {S : Type 0} (g : Ghosts S) (old mid new : Held S) (kept : KeepsCommit 
   cause_after W NoMemory h = refused_after g old mid new _ kept survives h
 
   -- and each error's
-  pub causes_after : {T : Type 0} (W : List ℕ → Row → Type 0) (r : Result T KeepFault) →
+  pub causes_after : {T : Type 0} (W : List (List ℕ × Row)) (r : Result T KeepFault) →
       IfErr r (HasCauseOf g W mid new) → IfErr r (HasCauseOf g W old new)
   causes_after W (Ok x) h = h
   causes_after W (Err f) h = cause_after W f h
@@ -64,7 +64,7 @@ failed_else (Err Failed) R P Q pure p f = inr (refl, f p)
 failed_else (Err NoMemory) R P Q pure p f = absurd (pure refl)
 
 -- an error that the second of two steps tells is told of both, with what its fault says of it; or something else holds
-pub told_after : {S T : Type 0} (g : Ghosts S) (W : List ℕ → Row → Type 0) (old mid new : Held S) →
+pub told_after : {S T : Type 0} (g : Ghosts S) (W : List (List ℕ × Row)) (old mid new : Held S) →
     KeepsCommit (state g old) (state g mid) → Survives (state g old) (state g mid) (λ _. ⊥) → (r : Result T KeepFault)
     (P Q : KeepFault → Type 0) (why : Option Error) → OnErr r (IsTold g W mid new why) → IfErr r Q →
     IfErr r (λ f. P f ⊎ (IsTold g W old new why × Q f))

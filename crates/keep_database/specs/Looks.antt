@@ -61,7 +61,7 @@ IsUnready g old new fault = HasCause g old new fault ⊎ ((fault ≡ Failed) × 
 
 -- a put that is refused was not begun for want of version 2, and what was told stays; or it tells the error with which
 -- the database refused a step of it, and its fault is want of memory exactly where that error is
-abbrev pub TellsRefusal : {S : Type 0} → Ghosts S → (List ℕ → Row → Type 0) → Held S → Held S → KeepFault →
+abbrev pub TellsRefusal : {S : Type 0} → Ghosts S → List (List ℕ × Row) → Held S → Held S → KeepFault →
     Option Error → Option Error → Type 0
 TellsRefusal g writes old new fault before told =
     ((told ≡ before) × IsUnready g old new fault)

@@ -11,8 +11,8 @@ ghost use Rattle.keep_office.specs.declared.kept.KeepFault.TheVariants.{NoMemory
 ghost use Rattle.keep_tables.specs.Stands.{HasOffice, StandsForOffice};
 ghost use Rattle.keep_tables.specs.Steps.{FitsAny};
 ghost use Rattle.keep_writes.specs.Causes.{WasRefusedIn, HasCauseOf, LackedMemory};
-ghost use Rattle.keep_writes.specs.Runs.{CommitsRun};
-ghost use Rattle.keep_writes.specs.Writes.{WritesDay, WritesPast, WritesTariff, day_texts, past_texts, tariff_texts};
+ghost use Rattle.keep_writes.specs.Runs.{CommitsRun, LeavesRun};
+ghost use Rattle.keep_writes.specs.Writes.{day_texts, past_texts, tariff_texts};
 ghost use Rattle.keep_database.specs.Gives.{GivesUnless, WantsMemory};
 ghost use Rattle.keep_database.specs.Looks.{CommitsFrom, HasSecond, IsSealed, TellsRefusal};
 ghost use Rattle.keep_database.specs.Shows.{ShowsDay, ShowsLast, ShowsPast, ShowsRows, ShowsSpent, ShowsTariffs};
@@ -201,16 +201,18 @@ pub fn put_day<S: Alter>(
     ensures open { HasCleanDisk (state S.Store conn.new) → OnOk result (IsTrue (state S.Store conn.new).is_open) }
     ensures why { HasCleanDisk (state S.Store conn.new) → (o : Office)
         → StandsForOffice (state S.Store conn.old).committed o
-        → IfErr result (HasCauseOf S.Store (WritesDay kept.now rows.now) conn.old conn.new) }
+        → IfErr result (HasCauseOf S.Store (day_texts kept.now rows.now) conn.old conn.new) }
     ensures wrote { HasCleanDisk (state S.Store conn.new)
         → OnOk result (CommitsRun S.Store (day_texts kept.now rows.now) conn.old conn.new) }
     ensures told { HasCleanDisk (state S.Store conn.new)
-        → IfErr result (λ fault. TellsRefusal S.Store (WritesDay kept.now rows.now) conn.old conn.new fault
+        → IfErr result (λ fault. TellsRefusal S.Store (day_texts kept.now rows.now) conn.old conn.new fault
         why.old why.new) }
     ensures refused { HasCleanDisk (state S.Store conn.new)
         → OnErr result (KeepsCommit (state S.Store conn.old) (state S.Store conn.new)) }
     ensures spares { Survives (state S.Store conn.old) (state S.Store conn.new) (λ _. HasSecond S.Store conn.old) }
     ensures quiet { OnOk result (why.new ≡ why.old) }
+    ensures leaves { Survives (state S.Store conn.old) (state S.Store conn.new) (LeavesRun S.Store
+        (day_texts kept.now rows.now) conn.old) }
     ensures crash { Survives (state S.Store conn.old) (state S.Store conn.new) (CommitsFrom (IsLater kept.now.day)
         (with_day kept.now rows.now) (state S.Store conn.old).committed) }
 {
@@ -234,16 +236,18 @@ pub fn put_past<S: Alter>(
     ensures open { HasCleanDisk (state S.Store conn.new) → OnOk result (IsTrue (state S.Store conn.new).is_open) }
     ensures why { HasCleanDisk (state S.Store conn.new) → (o : Office)
         → StandsForOffice (state S.Store conn.old).committed o
-        → IfErr result (HasCauseOf S.Store (WritesPast kept.now rows.now) conn.old conn.new) }
+        → IfErr result (HasCauseOf S.Store (past_texts kept.now rows.now) conn.old conn.new) }
     ensures wrote { HasCleanDisk (state S.Store conn.new)
         → OnOk result (CommitsRun S.Store (past_texts kept.now rows.now) conn.old conn.new) }
     ensures told { HasCleanDisk (state S.Store conn.new)
-        → IfErr result (λ fault. TellsRefusal S.Store (WritesPast kept.now rows.now) conn.old conn.new fault
+        → IfErr result (λ fault. TellsRefusal S.Store (past_texts kept.now rows.now) conn.old conn.new fault
         why.old why.new) }
     ensures refused { HasCleanDisk (state S.Store conn.new)
         → OnErr result (KeepsCommit (state S.Store conn.old) (state S.Store conn.new)) }
     ensures spares { Survives (state S.Store conn.old) (state S.Store conn.new) (λ _. HasSecond S.Store conn.old) }
     ensures quiet { OnOk result (why.new ≡ why.old) }
+    ensures leaves { Survives (state S.Store conn.old) (state S.Store conn.new) (LeavesRun S.Store
+        (past_texts kept.now rows.now) conn.old) }
     ensures crash { Survives (state S.Store conn.old) (state S.Store conn.new) (CommitsFrom HasNoDays
         (with_past kept.now rows.now) (state S.Store conn.old).committed) }
 {
@@ -267,16 +271,18 @@ pub fn put_tariff<S: Alter>(
     ensures open { HasCleanDisk (state S.Store conn.new) → OnOk result (IsTrue (state S.Store conn.new).is_open) }
     ensures why { HasCleanDisk (state S.Store conn.new) → (o : Office)
         → StandsForOffice (state S.Store conn.old).committed o
-        → IfErr result (HasCauseOf S.Store (WritesTariff xway tariff.now) conn.old conn.new) }
+        → IfErr result (HasCauseOf S.Store (tariff_texts xway tariff.now) conn.old conn.new) }
     ensures wrote { HasCleanDisk (state S.Store conn.new)
         → OnOk result (CommitsRun S.Store (tariff_texts xway tariff.now) conn.old conn.new) }
     ensures told { HasCleanDisk (state S.Store conn.new)
-        → IfErr result (λ fault. TellsRefusal S.Store (WritesTariff xway tariff.now) conn.old conn.new fault
+        → IfErr result (λ fault. TellsRefusal S.Store (tariff_texts xway tariff.now) conn.old conn.new fault
         why.old why.new) }
     ensures refused { HasCleanDisk (state S.Store conn.new)
         → OnErr result (KeepsCommit (state S.Store conn.old) (state S.Store conn.new)) }
     ensures spares { Survives (state S.Store conn.old) (state S.Store conn.new) (λ _. HasSecond S.Store conn.old) }
     ensures quiet { OnOk result (why.new ≡ why.old) }
+    ensures leaves { Survives (state S.Store conn.old) (state S.Store conn.new) (LeavesRun S.Store
+        (tariff_texts xway tariff.now) conn.old) }
     ensures crash { Survives (state S.Store conn.old) (state S.Store conn.new) (CommitsFrom FitsAny
         (with_tariff_of xway tariff.now) (state S.Store conn.old).committed) }
 {

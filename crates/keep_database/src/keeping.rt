@@ -13,8 +13,8 @@ ghost use Rattle.keep_tables.specs.Stands.{HasOffice, StandsForOffice, StandsFor
 ghost use Rattle.keep_tables.specs.Steps.{FitsAny};
 ghost use Rattle.keep_tables.specs.Told.{told_in};
 ghost use Rattle.keep_writes.specs.Causes.{WasRefused, WasRefusedIn, HasCauseOf, LackedMemory};
-ghost use Rattle.keep_writes.specs.Runs.{CommitsRun};
-ghost use Rattle.keep_writes.specs.Writes.{WritesDay, WritesPast, WritesTariff, day_texts, past_texts, tariff_texts};
+ghost use Rattle.keep_writes.specs.Runs.{CommitsRun, LeavesRun};
+ghost use Rattle.keep_writes.specs.Writes.{day_texts, past_texts, tariff_texts};
 ghost use Rattle.keep_writes.specs.Counts.{faults_after};
 ghost use Rattle.keep_database.specs.Gives.{GivesUnless, WantsMemory};
 ghost use Rattle.keep_database.specs.Looks.{CommitsFrom, HasSecond, IsSealed, TellsRefusal};
@@ -302,13 +302,13 @@ impl<S: Steady> Keeper for ProvedKeeper<S> {
             → OnOk result (HasOffice (state S.Store self.new.conn).committed (with_day kept.now rows.now o)) }
         ensures why { HasCleanDisk (state S.Store self.new.conn) → (o : Office)
             → StandsForOffice (state S.Store self.old.conn).committed o
-            → IfErr result (HasCauseOf S.Store (WritesDay kept.now rows.now) self.old.conn self.new.conn) }
+            → IfErr result (HasCauseOf S.Store (day_texts kept.now rows.now) self.old.conn self.new.conn) }
         ensures because { HasCleanDisk (state S.Store self.new.conn) → (o : Office)
             → StandsForOffice (state S.Store self.old.conn).committed o → result ≡ Err Failed → WasRefused S.Store }
         ensures wrote { HasCleanDisk (state S.Store self.new.conn)
             → OnOk result (CommitsRun S.Store (day_texts kept.now rows.now) self.old.conn self.new.conn) }
         ensures told { HasCleanDisk (state S.Store self.new.conn)
-            → IfErr result (λ fault. TellsRefusal S.Store (WritesDay kept.now rows.now) self.old.conn
+            → IfErr result (λ fault. TellsRefusal S.Store (day_texts kept.now rows.now) self.old.conn
             self.new.conn fault self.old.refused self.new.refused) }
         ensures refused { HasCleanDisk (state S.Store self.new.conn)
             → OnErr result (KeepsCommit (state S.Store self.old.conn) (state S.Store self.new.conn)) }
@@ -316,6 +316,8 @@ impl<S: Steady> Keeper for ProvedKeeper<S> {
             self.old.conn) }
         ensures quiet { OnOk result (self.new.refused ≡ self.old.refused) }
         ensures made { self.new.unmade ≡ self.old.unmade }
+        ensures leaves { Survives (state S.Store self.old.conn) (state S.Store self.new.conn) (LeavesRun S.Store
+            (day_texts kept.now rows.now) self.old.conn) }
         ensures crash { Survives (state S.Store self.old.conn) (state S.Store self.new.conn) (CommitsFrom
             (IsLater kept.now.day) (with_day kept.now rows.now) (state S.Store self.old.conn).committed) }
     {
@@ -345,13 +347,13 @@ impl<S: Steady> Keeper for ProvedKeeper<S> {
             → OnOk result (HasOffice (state S.Store self.new.conn).committed (with_past kept.now rows.now o)) }
         ensures why { HasCleanDisk (state S.Store self.new.conn) → (o : Office)
             → StandsForOffice (state S.Store self.old.conn).committed o
-            → IfErr result (HasCauseOf S.Store (WritesPast kept.now rows.now) self.old.conn self.new.conn) }
+            → IfErr result (HasCauseOf S.Store (past_texts kept.now rows.now) self.old.conn self.new.conn) }
         ensures because { HasCleanDisk (state S.Store self.new.conn) → (o : Office)
             → StandsForOffice (state S.Store self.old.conn).committed o → result ≡ Err Failed → WasRefused S.Store }
         ensures wrote { HasCleanDisk (state S.Store self.new.conn)
             → OnOk result (CommitsRun S.Store (past_texts kept.now rows.now) self.old.conn self.new.conn) }
         ensures told { HasCleanDisk (state S.Store self.new.conn)
-            → IfErr result (λ fault. TellsRefusal S.Store (WritesPast kept.now rows.now) self.old.conn
+            → IfErr result (λ fault. TellsRefusal S.Store (past_texts kept.now rows.now) self.old.conn
             self.new.conn fault self.old.refused self.new.refused) }
         ensures refused { HasCleanDisk (state S.Store self.new.conn)
             → OnErr result (KeepsCommit (state S.Store self.old.conn) (state S.Store self.new.conn)) }
@@ -359,6 +361,8 @@ impl<S: Steady> Keeper for ProvedKeeper<S> {
             self.old.conn) }
         ensures quiet { OnOk result (self.new.refused ≡ self.old.refused) }
         ensures made { self.new.unmade ≡ self.old.unmade }
+        ensures leaves { Survives (state S.Store self.old.conn) (state S.Store self.new.conn) (LeavesRun S.Store
+            (past_texts kept.now rows.now) self.old.conn) }
         ensures crash { Survives (state S.Store self.old.conn) (state S.Store self.new.conn) (CommitsFrom HasNoDays
             (with_past kept.now rows.now) (state S.Store self.old.conn).committed) }
     {
@@ -388,13 +392,13 @@ impl<S: Steady> Keeper for ProvedKeeper<S> {
             → OnOk result (HasOffice (state S.Store self.new.conn).committed (with_tariff_of xway tariff.now o)) }
         ensures why { HasCleanDisk (state S.Store self.new.conn) → (o : Office)
             → StandsForOffice (state S.Store self.old.conn).committed o
-            → IfErr result (HasCauseOf S.Store (WritesTariff xway tariff.now) self.old.conn self.new.conn) }
+            → IfErr result (HasCauseOf S.Store (tariff_texts xway tariff.now) self.old.conn self.new.conn) }
         ensures because { HasCleanDisk (state S.Store self.new.conn) → (o : Office)
             → StandsForOffice (state S.Store self.old.conn).committed o → result ≡ Err Failed → WasRefused S.Store }
         ensures wrote { HasCleanDisk (state S.Store self.new.conn)
             → OnOk result (CommitsRun S.Store (tariff_texts xway tariff.now) self.old.conn self.new.conn) }
         ensures told { HasCleanDisk (state S.Store self.new.conn)
-            → IfErr result (λ fault. TellsRefusal S.Store (WritesTariff xway tariff.now) self.old.conn
+            → IfErr result (λ fault. TellsRefusal S.Store (tariff_texts xway tariff.now) self.old.conn
             self.new.conn fault self.old.refused self.new.refused) }
         ensures refused { HasCleanDisk (state S.Store self.new.conn)
             → OnErr result (KeepsCommit (state S.Store self.old.conn) (state S.Store self.new.conn)) }
@@ -402,6 +406,8 @@ impl<S: Steady> Keeper for ProvedKeeper<S> {
             self.old.conn) }
         ensures quiet { OnOk result (self.new.refused ≡ self.old.refused) }
         ensures made { self.new.unmade ≡ self.old.unmade }
+        ensures leaves { Survives (state S.Store self.old.conn) (state S.Store self.new.conn) (LeavesRun S.Store
+            (tariff_texts xway tariff.now) self.old.conn) }
         ensures crash { Survives (state S.Store self.old.conn) (state S.Store self.new.conn) (CommitsFrom FitsAny
             (with_tariff_of xway tariff.now) (state S.Store self.old.conn).committed) }
     {

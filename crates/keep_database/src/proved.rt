@@ -9,9 +9,9 @@ ghost use Rattle.keep_office.specs.declared.kept.KeepFault.TheVariants.{NoMemory
 ghost use Rattle.keep_tables.specs.Stands.{HasOffice, StandsForOffice};
 ghost use Rattle.keep_tables.specs.Told.{told_in};
 ghost use Rattle.keep_writes.specs.Causes.{HasCause};
-ghost use Rattle.keep_writes.specs.Growth.{CommitsSame, CommitsVersion, HasVersion, IsAtRest, IsOurs, LacksVersion};
+ghost use Rattle.keep_writes.specs.Growth.{CommitsSame, HasVersion, IsAtRest, IsOurs, LacksVersion};
 ghost use Rattle.keep_writes.specs.Objects.{MayBeMade};
-ghost use Rattle.keep_writes.specs.Unmade.{IsUnmadeBy};
+ghost use Rattle.keep_writes.specs.Unmade.{CommitsTables, IsUnmadeBy, LeavesTables};
 ghost use Rattle.keep_database.specs.Looks.{ShowsSecond, ShowsOther};
 
 use crate::steady::Steady;
@@ -75,12 +75,14 @@ impl<S: Steady> ProvedKeeper<S> {
             → KeepsCommit (state S.Store connection) (state S.Store result.conn) }
         ensures ours { HasCleanDisk (state S.Store result.conn) → result.unmade ≡ None
             → IsOurs (state S.Store connection).committed }
-        ensures second { HasCleanDisk (state S.Store result.conn) → result.unmade ≡ None
-            → LacksVersion (state S.Store connection).committed → CommitsVersion S.Store result.conn }
+        ensures wrote { HasCleanDisk (state S.Store result.conn) → result.unmade ≡ None
+            → LacksVersion (state S.Store connection).committed → CommitsTables S.Store connection result.conn }
         ensures kept { HasCleanDisk (state S.Store result.conn) → result.unmade ≢ None
             → KeepsCommit (state S.Store connection) (state S.Store result.conn) }
         ensures rest { HasCleanDisk (state S.Store result.conn) → result.unmade ≡ None
             → IsAtRest (state S.Store result.conn) }
+        ensures leaves { Survives (state S.Store connection) (state S.Store result.conn) (LeavesTables S.Store
+            connection) }
         ensures crash { Survives (state S.Store connection) (state S.Store result.conn) (CommitsSame
             (state S.Store connection).committed) }
         ensures why { HasCleanDisk (state S.Store result.conn)

@@ -1,13 +1,16 @@
 -- What texts did that ran one after another.
-use Rattle.std.proofs.Common.{◌≡◌, ℕ, zero, suc, true, List, [], ◌∷◌, ◌++◌, map, Ok, IsTrue, refl, sym, subst, subst₂, ◌∙◌}
-use Rattle.std.specs.List.{AllByRecursion}
-use Rattle.std.proofs.lemmas.List.{map-append}
+use Rattle.std.proofs.Common.{◌≡◌, ◌<◌, ◌+◌, ℕ, true, List, [], ◌∷◌, ◌++◌, map, Ok, IsTrue, refl}
+use Rattle.std.proofs.Common.{take, drop, get_or, length, ap, sym, subst, ◌∙◌, arith}
+use Rattle.std.proofs.lemmas.List.{map-append, take-append-drop, take_more}
 use Rattle.sqlite_value.specs.Order.{Row}
 use Rattle.road_time.specs.declared.day.SpentRow.{SpentRow}
 use Rattle.sqlite_trees.specs.declared.store.Store.{Ghosts}
 use Rattle.sqlite.specs.Held.{Held, state}
-use Rattle.sqlite.specs.State.{State, ExecutesInside, KeepsCommit}
-use Rattle.keep_writes.specs.Runs.{SeesAs, SeesCommit, RanOne, IsText, RanAll, RanSo, Ran, RanOn, CommitsRun}
+use Rattle.sqlite.specs.State.{State, ExecutesInside, HasCleanDisk, KeepsCommit, Survives}
+use Rattle.sqlite.proofs.Callers.{survives_begin}
+use Rattle.sqlite.proofs.StateLemmas.{survives_then}
+use Rattle.keep_writes.specs.Runs.{SeesAs, SeesCommit, RanOne, IsText, RanAll, RanOn, CommitsRun}
+use Rattle.keep_writes.specs.Runs.{LeavesNow, LeavesRun}
 use Rattle.keep_writes.specs.Writes.{amount_text}
 
 -- a connection shows what it shows
@@ -21,94 +24,19 @@ sees_then one two three first second here =
     let early = first later.0 in
     (early.0, later.1 ∙ early.1)
 
+-- the amounts before one, that one, and those behind it
+pub amounts_cut : (rows : List SpentRow) (place : ℕ) (none : SpentRow) → place < length rows →
+    map amount_text rows
+    ≡ (map amount_text (take place rows) ++ amount_text (get_or rows place none) ∷ [])
+    ++ map amount_text (drop (place + 1) rows)
+amounts_cut rows place none below =
+    ap (map amount_text) (sym (take-append-drop (place + 1) rows))
+    ∙ map-append amount_text (take (place + 1) rows) (drop (place + 1) rows)
+    ∙ ap (λ (l : List (List ℕ × Row)). l ++ map amount_text (drop (place + 1) rows))
+    (ap (map amount_text) (take_more rows place none below)
+    ∙ map-append amount_text (take place rows) (get_or rows place none ∷ []))
+
 module _ {S : Type 0} (g : Ghosts S) where
-  -- nothing ran yet
-  pub ran_none : (writes : List ℕ → Row → Type 0) → (old : Held S) → Ran g writes old old
-  ran_none writes old = (0, sees_self (state g old))
-
-  -- one text ran
-  pub ran_once : (writes : List ℕ → Row → Type 0) → (old new : Held S) → RanOne g writes old new →
-      Ran g writes old new
-  ran_once writes old new one = (1, (old, new, sees_self (state g old), one, sees_self (state g new)))
-
-  -- nothing was changed behind so many texts
-  ran_so : (writes : List ℕ → Row → Type 0) → (n : ℕ) → (old mid new : Held S) → RanSo g writes n old mid →
-      SeesAs (state g mid) (state g new) → RanSo g writes n old new
-  ran_so writes zero old mid new ran sees = sees_then (state g old) (state g mid) (state g new) ran sees
-  ran_so writes (suc n) old mid new (a, b, ran, one, last) sees =
-      (a, b, ran, one, sees_then (state g b) (state g mid) (state g new) last sees)
-
-  -- so behind some
-  pub ran_on : (writes : List ℕ → Row → Type 0) → (old mid new : Held S) → Ran g writes old mid →
-      SeesAs (state g mid) (state g new) → Ran g writes old new
-  ran_on writes old mid new ran sees = (ran.0, ran_so writes ran.0 old mid new ran.1 sees)
-
-  -- so many more ran
-  ran_more : (writes : List ℕ → Row → Type 0) → (old mid : Held S) → Ran g writes old mid → (n : ℕ) → (new : Held S) →
-      RanSo g writes n mid new → Ran g writes old new
-  ran_more writes old mid first zero new sees = ran_on writes old mid new first sees
-  ran_more writes old mid first (suc n) new (a, b, ran, one, last) =
-      let before = ran_more writes old mid first n a ran in
-      (suc before.0, (a, b, before.1, one, last))
-
-  -- some ran, and then some more
-  pub ran_then : (writes : List ℕ → Row → Type 0) → (old mid new : Held S) → Ran g writes old mid →
-      Ran g writes mid new → Ran g writes old new
-  ran_then writes old mid new first second = ran_more writes old mid first second.0 new second.1
-
-  -- so many of a call that writes less are so many of one that writes more
-  so_wider : (V W : List ℕ → Row → Type 0) → ((sql : List ℕ) (params : Row) → V sql params → W sql params) → (n : ℕ) →
-      (old new : Held S) → RanSo g V n old new → RanSo g W n old new
-  so_wider V W more zero old new sees = sees
-  so_wider V W more (suc n) old new (a, b, ran, one, last) = (
-    a,
-    b,
-    so_wider V W more n old a ran,
-    record {
-      sql = one.sql;
-      params = one.params;
-      count = one.count;
-      written = more one.sql one.params one.written;
-      inside = one.inside;
-      ran = one.ran;
-    },
-    last,
-  )
-
-  -- so some
-  pub ran_wider : (V W : List ℕ → Row → Type 0) → ((sql : List ℕ) (params : Row) → V sql params → W sql params) →
-      (old new : Held S) → Ran g V old new → Ran g W old new
-  ran_wider V W more old new ran = (ran.0, so_wider V W more ran.0 old new ran.1)
-
-  -- what ran on what was committed ran on it before a step that commits nothing
-  pub ran_after : (writes : List ℕ → Row → Type 0) → (old mid before : Held S) → KeepsCommit (state g old) (state g mid) →
-      RanOn g writes mid before → RanOn g writes old before
-  ran_after writes old mid before kept it = record {
-    start = it.start;
-    found = λ here.
-        let shown = it.found here in (kept.was_open shown.0, shown.1 ∙ kept.committed shown.0);
-    ran = it.ran;
-  }
-
-  -- so of a call that writes more
-  pub on_wider : (V W : List ℕ → Row → Type 0) → ((sql : List ℕ) (params : Row) → V sql params → W sql params) →
-      (old before : Held S) → RanOn g V old before → RanOn g W old before
-  on_wider V W more old before it = record {
-    start = it.start;
-    found = it.found;
-    ran = ran_wider V W more it.start before it.ran;
-  }
-
-  -- in a transaction that began where nothing was under way, what ran ran on what was committed
-  pub ran_begun : (writes : List ℕ → Row → Type 0) → (old before : Held S) →
-      (IsTrue (state g old).is_open → (state g old).now ≡ (state g old).committed) →
-      Ran g writes (record old { in_transaction = true }) before → RanOn g writes old before
-  ran_begun writes old before settled ran = record {
-    start = record old { in_transaction = true };
-    found = λ here. (here, settled here);
-    ran = ran;
-  }
-
   -- none ran yet
   pub all_none : (old : Held S) → RanAll g [] old old
   all_none old = sees_self (state g old)
@@ -140,30 +68,24 @@ module _ {S : Type 0} (g : Ghosts S) where
   all_then (text ∷ texts) more old mid new (a, b, first, one, rest) ran =
       (a, b, first, one, all_then texts more b mid new rest ran)
 
-  -- where all of some texts ran, some of a call ran that writes each of them
-  pub ran_of : (writes : List ℕ → Row → Type 0) → (texts : List (List ℕ × Row)) →
-      AllByRecursion (λ t. writes t.0 t.1) texts → (old new : Held S) → RanAll g texts old new → Ran g writes old new
-  ran_of writes [] all old new sees = (0, sees)
-  ran_of writes (text ∷ texts) all old new (a, b, first, one, rest) =
-      ran_then writes old b new (
-        1,
-        (
-          a,
-          b,
-          first,
-          record {
-            sql = text.0;
-            params = text.1;
-            count = one.count;
-            written = all.0;
-            inside = one.inside;
-            ran = subst₂ (λ (sql : List ℕ) (params : Row).
-                ExecutesInside 0 sql params (state g a) (state g b) (Ok one.count)) one.written.0 one.written.1 one.ran;
-          },
-          sees_self (state g b),
-        ),
-      )
-      (ran_of writes texts all.1 b new rest)
+  -- what ran on what was committed ran on it before a step that commits nothing
+  pub on_after : (texts : List (List ℕ × Row)) (old mid before : Held S) → KeepsCommit (state g old) (state g mid) →
+      RanOn g texts mid before → RanOn g texts old before
+  on_after texts old mid before kept it = record {
+    start = it.start;
+    found = λ here. let shown = it.found here in (kept.was_open shown.0, shown.1 ∙ kept.committed shown.0);
+    ran = it.ran;
+  }
+
+  -- in a transaction that began where nothing was under way, what ran ran on what was committed
+  pub on_begun : (texts : List (List ℕ × Row)) (old before : Held S) →
+      (IsTrue (state g old).is_open → (state g old).now ≡ (state g old).committed) →
+      RanAll g texts (record old { in_transaction = true }) before → RanOn g texts old before
+  on_begun texts old before settled ran = record {
+    start = record old { in_transaction = true };
+    found = λ here. (here, settled here);
+    ran = ran;
+  }
 
   -- one more amount was put
   pub amounts_next : (rows : List SpentRow) (row : SpentRow) (old mid new : Held S) →
@@ -178,22 +100,59 @@ module _ {S : Type 0} (g : Ghosts S) where
       (IsTrue (state g old).is_open → (state g old).now ≡ (state g old).committed) →
       RanAll g texts (record old { in_transaction = true }) last → (state g new).committed ≡ (state g last).now →
       CommitsRun g texts old new
-  commits_begun texts old last new settled ran committed = record {
-    start = record old { in_transaction = true };
-    last = last;
-    found = λ here. (here, settled here);
-    ran = ran;
-    committed = committed;
-  }
+  commits_begun texts old last new settled ran committed =
+      record { last = last; ran = on_begun texts old last settled ran; committed = committed }
 
   -- what a call commits that began with a step that commits nothing
   pub commits_after : (texts : List (List ℕ × Row)) (old mid new : Held S) → KeepsCommit (state g old) (state g mid) →
       CommitsRun g texts mid new → CommitsRun g texts old new
-  commits_after texts old mid new kept it = record {
-    start = it.start;
-    last = it.last;
-    found = λ here.
-        let shown = it.found here in (kept.was_open shown.0, shown.1 ∙ kept.committed shown.0);
-    ran = it.ran;
-    committed = it.committed;
-  }
+  commits_after texts old mid new kept it =
+      record { last = it.last; ran = on_after texts old mid it.last kept it.ran; committed = it.committed }
+
+  -- what a crash leaves of a transaction that began with the call, was written and then committed
+  pub commit_leaves : (texts : List (List ℕ × Row)) (old last end : Held S) →
+      Survives (state g (record old { in_transaction = true })) (state g last) (λ _. ⊥) →
+      Survives (state g last) (state g end) (λ db. db ≡ (state g last).now.trees) →
+      (HasCleanDisk (state g last) → RanAll g texts (record old { in_transaction = true }) last) →
+      Survives (state g old) (state g end) (LeavesNow g texts old)
+  commit_leaves texts old last end written committed ran =
+      survives_then (state g old) (state g last) (state g end) (λ _. ⊥) (λ db. db ≡ (state g last).now.trees)
+      (LeavesNow g texts old) (λ _ db none. absurd none)
+      (λ clean db is.
+      let late : HasCleanDisk (state g last) = omega (arith, committed.clean) in
+      (last, all_behind texts old (record old { in_transaction = true }) last (λ here. (here, refl)) (ran late), is))
+      (survives_begin g old (state g last) _ written) committed
+
+  -- what one leaves of a call that began with a step that commits nothing
+  pub leaves_after : (texts : List (List ℕ × Row)) (old mid new : Held S) →
+      (HasCleanDisk (state g mid) → IsTrue (state g mid).is_open → (state g mid).now ≡ (state g mid).committed) →
+      (HasCleanDisk (state g mid) → KeepsCommit (state g old) (state g mid)) →
+      Survives (state g old) (state g mid) (λ _. ⊥) → Survives (state g mid) (state g new) (LeavesNow g texts mid) →
+      Survives (state g old) (state g new) (LeavesRun g texts old)
+  leaves_after texts old mid new settled kept first last =
+      survives_then (state g old) (state g mid) (state g new) (λ _. ⊥) (LeavesNow g texts mid) (LeavesRun g texts old)
+      (λ _ db none. absurd none)
+      (λ clean db made.
+      let early : HasCleanDisk (state g mid) = omega (arith, last.clean) in
+      record {
+        last = made.0;
+        ran = record {
+          start = mid;
+          found = λ here. ((kept early).was_open here, settled early here ∙ (kept early).committed here);
+          ran = made.1;
+        };
+        is = made.2;
+      }) first last
+
+  -- so behind a step that comes before such a call
+  pub leaves_behind : (texts : List (List ℕ × Row)) (old mid new : Held S) →
+      (HasCleanDisk (state g mid) → KeepsCommit (state g old) (state g mid)) →
+      Survives (state g old) (state g mid) (λ _. ⊥) → Survives (state g mid) (state g new) (LeavesRun g texts mid) →
+      Survives (state g old) (state g new) (LeavesRun g texts old)
+  leaves_behind texts old mid new kept first last =
+      survives_then (state g old) (state g mid) (state g new) (λ _. ⊥) (LeavesRun g texts mid) (LeavesRun g texts old)
+      (λ _ db none. absurd none)
+      (λ clean db made.
+      let early : HasCleanDisk (state g mid) = omega (arith, last.clean) in
+      record { last = made.last; ran = on_after texts old mid made.last (kept early) made.ran; is = made.is })
+      first last

@@ -15,7 +15,7 @@ use Rattle.keep_tables.proofs.StepLaws.{kept_then}
 use Rattle.keep_writes.specs.Growth.{IsUnderstood, SaysIf}
 use Rattle.keep_writes.specs.Objects.{Lists, texts_of}
 use Rattle.keep_writes.specs.Unmade.{SeesCommitted, lacking_texts, MakesTables, EndsTables, EndsInside, RefusesMaking}
-use Rattle.keep_writes.specs.Unmade.{IsUnmade, IsUnmadeBy}
+use Rattle.keep_writes.specs.Unmade.{CommitsTables, IsUnmade, IsUnmadeBy}
 use Rattle.keep_writes.proofs.CauseLaws.{kept_self, survives_self, kept_inside, err_then}
 
 -- in a transaction that goes on, no query comes too late
@@ -127,6 +127,37 @@ module _ {S : Type 0} (g : Ghosts S) where
         reached = survives_begin g old (state g last) _ survives;
         left = survives_self (state g end);
       }
+
+  -- what is committed of a transaction that began with the call where nothing was under way
+  pub tables_begun : (is_old : Bool) (old last new : Held S) → SeesCommitted (state g old) →
+      SaysIf is_old (IsUnderstood (understood (state g old).now.schema list_days)) →
+      Lists (state g old).now (texts_of is_old) →
+      MakesTables g (lacking_texts is_old) (record old { in_transaction = true }) last →
+      (state g new).committed ≡ (state g last).now → CommitsTables g old new
+  tables_begun is_old old last new settled says lists makes committed = record {
+    is_old = is_old;
+    start = record old { in_transaction = true };
+    last = last;
+    found = λ here. (here, settled here);
+    says = says;
+    lists = lists;
+    makes = makes;
+    committed = committed;
+  }
+
+  -- the same behind a step that commits nothing
+  pub tables_after : (old mid new : Held S) → KeepsCommit (state g old) (state g mid) → CommitsTables g mid new →
+      CommitsTables g old new
+  tables_after old mid new kept it = record {
+    is_old = it.is_old;
+    start = it.start;
+    last = it.last;
+    found = λ here. let shown = it.found here in (kept.was_open shown.0, shown.1 ∙ kept.committed shown.0);
+    says = it.says;
+    lists = it.lists;
+    makes = it.makes;
+    committed = it.committed;
+  }
 
   -- the same of one that commits nothing, where a transaction is under way or not
   pub unmade_then : {T : Type 0} (old mid new : Held S) (r : Result T Error) →

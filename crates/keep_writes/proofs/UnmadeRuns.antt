@@ -55,7 +55,8 @@ module _ {S : Type 0} (g : Ghosts S) where
   }
 
   -- days were shown behind others
-  shows_after : (texts more : List (List ℕ × Row)) (rows : List Row) (old mid listed : Held S) → RanAll g texts old mid →
+  shows_after : (texts more : List (List ℕ × Row)) (rows : List Row) (old mid listed : Held S) →
+      RanAll g texts old mid →
       ShowsDays g more rows mid listed → ShowsDays g (texts ++ more) rows old listed
   shows_after texts more rows old mid listed ran h =
       record { made = h.made; ran = all_then g texts more old mid h.made ran h.ran; shown = h.shown }

@@ -3,17 +3,15 @@
 use Rattle.std.specs.Prelude.{◌≡◌, ◌⊎◌, ℕ, Bool, true, false, List, [], Result, Ok, Err, IsTrue}
 use Rattle.std.specs.List.{AllByRecursion}
 use Rattle.sqlite_value.specs.Order.{Row}
-use Rattle.sqlite_trees.specs.declared.store.Store.{Ghosts}
 use Rattle.sqlite_trees.specs.Tree.{Trees}
 use Rattle.sqlite_resolve.specs.declared.compiled.Compiled.{Compiled}
 use Rattle.sqlite_resolve.specs.declared.error.CompileError.{CompileError}
 use Rattle.sqlite.specs.Effect.{Database}
-use Rattle.sqlite.specs.Held.{Held, state}
 use Rattle.sqlite.specs.Listing.{understood}
 use Rattle.sqlite.specs.State.{State, Executes, ExecutesInside}
 use Rattle.keep_office.specs.Kept.{seal_of}
 use Rattle.keep_office.specs.Office.{Office, IsSound}
-use Rattle.keep_tables.specs.Texts.{find_version, put_version}
+use Rattle.keep_tables.specs.Texts.{find_version}
 use Rattle.keep_tables.specs.Stands.{HoldsAs, HasOld, HasNothing, FitsFields, StandsForOffice, contents_of}
 use Rattle.keep_tables.specs.Steps.{IsTreesOf}
 use Rattle.keep_writes.specs.Objects.{Lists, MayBeMade, texts_of}
@@ -65,18 +63,6 @@ LacksVersion db = ¬ HasVersion db
 -- a database is ours: the table of our version is there, or its tables may be made
 abbrev pub IsOurs : Database → Type 0
 IsOurs db = HasVersion db ⊎ MayBeMade db
-
-module _ {S : Type 0} (g : Ghosts S) where
-  -- version 2 was put just before
-  pub record PutsVersion (now : Held S) : Type 0 where
-    pub before : Held S
-    pub ran : TextRan put_version (state g before) (state g now)
-
-  -- what is committed is that to which version 2 was put
-  pub record CommitsVersion (new : Held S) : Type 0 where
-    pub last : Held S
-    pub puts : PutsVersion last
-    pub committed : (state g new).committed ≡ (state g last).now
 
 -- what is committed stands for the office that stood
 abbrev pub CommitsGrown : Bool → State → Trees → Type 0

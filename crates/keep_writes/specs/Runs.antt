@@ -1,7 +1,8 @@
 -- What the texts of a call did within its transaction.
-use Rattle.std.specs.Prelude.{◌≡◌, ℕ, zero, suc, List, [], ◌∷◌, Ok, IsTrue}
+use Rattle.std.specs.Prelude.{◌≡◌, ℕ, List, [], ◌∷◌, Ok, IsTrue}
 use Rattle.sqlite_value.specs.Order.{Row}
 use Rattle.sqlite_trees.specs.declared.store.Store.{Ghosts}
+use Rattle.sqlite_trees.specs.Tree.{Trees}
 use Rattle.sqlite.specs.Held.{Held, state}
 use Rattle.sqlite.specs.State.{State, ExecutesInside}
 
@@ -29,31 +30,29 @@ RanAll {S} g (text ∷ texts) old new =
     (mid : Held S) × (last : Held S) × SeesAs (state g old) (state g mid) × RanOne g (IsText text) mid last
     × RanAll g texts last new
 
--- so many ran, one after another, and nothing else was changed
-abbrev pub RanSo : {S : Type 0} → Ghosts S → (List ℕ → Row → Type 0) → ℕ → Held S → Held S → Type 0
-RanSo g writes zero old new = SeesAs (state g old) (state g new)
-RanSo {S} g writes (suc n) old new =
-    (mid : Held S) × (last : Held S) × RanSo g writes n old mid × RanOne g writes mid last
-    × SeesAs (state g last) (state g new)
-
--- some ran
-abbrev pub Ran : {S : Type 0} → Ghosts S → (List ℕ → Row → Type 0) → Held S → Held S → Type 0
-Ran g writes old new = (n : ℕ) × RanSo g writes n old new
-
 -- an open connection shows what another had committed
 abbrev pub SeesCommit : State → State → Type 0
 SeesCommit old start = IsTrue start.is_open → IsTrue old.is_open × (start.now ≡ old.committed)
 
--- texts of a call ran on what was committed before it
-pub record RanOn {S : Type 0} (g : Ghosts S) (writes : List ℕ → Row → Type 0) (old before : Held S) : Type 0 where
+-- all of these texts ran on what was committed before
+pub record RanOn {S : Type 0} (g : Ghosts S) (texts : List (List ℕ × Row)) (old before : Held S) : Type 0 where
   pub start : Held S
   pub found : SeesCommit (state g old) (state g start)
-  pub ran : Ran g writes start before
+  pub ran : RanAll g texts start before
 
 -- what is committed is what all of these texts, in their order, made of what was committed before
 pub record CommitsRun {S : Type 0} (g : Ghosts S) (texts : List (List ℕ × Row)) (old new : Held S) : Type 0 where
-  pub start : Held S
   pub last : Held S
-  pub found : SeesCommit (state g old) (state g start)
-  pub ran : RanAll g texts start last
+  pub ran : RanOn g texts old last
   pub committed : (state g new).committed ≡ (state g last).now
+
+-- trees are those that all of these texts made of what a connection shows
+abbrev pub LeavesNow : {S : Type 0} → Ghosts S → List (List ℕ × Row) → Held S → Trees → Type 0
+LeavesNow {S} g texts old trees = (last : Held S) × RanAll g texts old last × (trees ≡ (state g last).now.trees)
+
+-- trees are those that all of these texts, in their order, made of what was committed before
+pub record LeavesRun {S : Type 0} (g : Ghosts S) (texts : List (List ℕ × Row)) (old : Held S) (trees : Trees) :
+    Type 0 where
+  pub last : Held S
+  pub ran : RanOn g texts old last
+  pub is : trees ≡ (state g last).now.trees

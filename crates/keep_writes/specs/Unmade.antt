@@ -4,6 +4,7 @@ use Rattle.std.specs.Prelude.{Some, None, Option, slice_get, Err, IsTrue}
 use Rattle.std.specs.List.{AllByRecursion}
 use Rattle.sqlite_value.specs.declared.value.Value.TheVariants.{Int, Blob}
 use Rattle.sqlite_value.specs.Order.{Row, column}
+use Rattle.sqlite_trees.specs.Tree.{Trees}
 use Rattle.sqlite_trees.specs.declared.store.Store.{Ghosts}
 use Rattle.sqlite_resolve.specs.declared.error.CompileError.{CompileError}
 use Rattle.sqlite.specs.declared.error.Error.{Error}
@@ -19,7 +20,7 @@ use Rattle.keep_office.specs.Kept.{seal_of}
 use Rattle.keep_tables.specs.Texts.{undo, find_version, list_days, make_days, make_spent, make_past, make_day_tariffs}
 use Rattle.keep_tables.specs.Texts.{make_tariffs, make_form, put_version, put_seal}
 use Rattle.keep_writes.specs.Causes.{IsOneOf}
-use Rattle.keep_writes.specs.Growth.{IsUnderstood, SaysIf}
+use Rattle.keep_writes.specs.Growth.{IsUnderstood, LacksVersion, SaysIf}
 use Rattle.keep_writes.specs.Objects.{list_texts, Lists, texts_of}
 use Rattle.keep_writes.specs.Runs.{SeesCommit, RanOne, IsText, RanAll}
 
@@ -58,8 +59,8 @@ ListsOthers before e =
     × Lists before.committed rows × (rows ≢ texts_of is_old) × (e ≡ SqliteFailure NotADatabase)
 
 -- within a transaction one of these texts was refused behind those before it
-pub record RefusesEach {S : Type 0} (g : Ghosts S) (texts : List (List ℕ × Row)) (old before after : Held S) (error : Error) :
-    Type 0 where
+pub record RefusesEach {S : Type 0} (g : Ghosts S) (texts : List (List ℕ × Row)) (old before after : Held S)
+    (error : Error) : Type 0 where
   pub done : List (List ℕ × Row)
   pub text : List ℕ × Row
   pub rest : List (List ℕ × Row)
@@ -114,6 +115,50 @@ pub record MakesTables {S : Type 0} (g : Ghosts S) (texts : List (List ℕ × Ro
   pub last : Held S
   pub seals : SealsDays g texts old last
   pub ran : RanOne g (IsText (put_version, [])) last new
+
+-- what is committed is what the whole making, in a transaction that began on what was committed before, made of that,
+-- which listed exactly the tables that were there
+pub record CommitsTables {S : Type 0} (g : Ghosts S) (old new : Held S) : Type 0 where
+  pub is_old : Bool
+  pub start : Held S
+  pub last : Held S
+  pub found : SeesCommit (state g old) (state g start)
+  pub says : SaysIf is_old (IsUnderstood (understood (state g start).now.schema list_days))
+  pub lists : Lists (state g start).now (texts_of is_old)
+  pub makes : MakesTables g (lacking_texts is_old) start last
+  pub committed : (state g new).committed ≡ (state g last).now
+
+-- trees are those that the making of the tables that lack made of what a connection shows
+abbrev pub LeavesGrown : {S : Type 0} → Ghosts S → Bool → Held S → Trees → Type 0
+LeavesGrown {S} g is_old old trees =
+    (last : Held S) × MakesTables g (lacking_texts is_old) old last × (trees ≡ (state g last).now.trees)
+
+-- the same, where it lists exactly the tables that are there
+abbrev pub LeavesListed : {S : Type 0} → Ghosts S → Bool → Held S → Trees → Type 0
+LeavesListed g is_old old trees = LeavesGrown g is_old old trees × Lists (state g old).now (texts_of is_old)
+
+-- the same, where it was seen which tables are there
+abbrev pub LeavesHere : {S : Type 0} → Ghosts S → Held S → Trees → Type 0
+LeavesHere g old trees =
+    (is_old : Bool) × SaysIf is_old (IsUnderstood (understood (state g old).now.schema list_days))
+    × LeavesListed g is_old old trees
+
+-- the same, where the table of our version is not
+abbrev pub LeavesOpen : {S : Type 0} → Ghosts S → Held S → Trees → Type 0
+LeavesOpen g old trees = LacksVersion (state g old).now × LeavesHere g old trees
+
+-- trees are those that the whole making, in a transaction that began on what was committed before, made of that, which
+-- had no table of our version and listed exactly the tables that were there
+pub record LeavesTables {S : Type 0} (g : Ghosts S) (old : Held S) (trees : Trees) : Type 0 where
+  pub is_old : Bool
+  pub start : Held S
+  pub last : Held S
+  pub found : SeesCommit (state g old) (state g start)
+  pub lacks : LacksVersion (state g start).now
+  pub says : SaysIf is_old (IsUnderstood (understood (state g start).now.schema list_days))
+  pub lists : Lists (state g start).now (texts_of is_old)
+  pub makes : MakesTables g (lacking_texts is_old) start last
+  pub is : trees ≡ (state g last).now.trees
 
 -- behind these texts the seals failed: one of the days that were shown has no number, or its seal was refused
 pub record FailsToSeal {S : Type 0} (g : Ghosts S) (texts : List (List ℕ × Row)) (old before after : Held S)

@@ -13,7 +13,7 @@ ghost use Rattle.keep_tables.specs.Steps.{StaysInside};
 ghost use Rattle.keep_tables.specs.Texts.{put_seal as put_seal_text};
 ghost use Rattle.keep_writes.specs.Causes.{RefusedInside};
 ghost use Rattle.keep_writes.specs.Runs.{RanAll};
-ghost use Rattle.keep_writes.specs.Writes.{WritesDay, WritesRecord, WritesSeal, day_texts, record_text, seal_text};
+ghost use Rattle.keep_writes.specs.Writes.{day_texts, record_text, seal_text};
 
 use crate::columns::{bytes_of, column};
 use crate::spent_writes::put_amounts;
@@ -39,7 +39,7 @@ pub fn write_day<S: Alter>(
         → StaysInside (state S.Store tx.old.conn.now) (state S.Store tx.new.conn.now) result }
     ensures refused { HasCleanDisk (state S.Store tx.new.conn.now)
         → IsTrue (state S.Store tx.old.conn.now).in_transaction
-        → IfErr result (RefusedInside S.Store (WritesDay kept.now rows.now) tx.old.conn.now tx.new.conn.now) }
+        → IfErr result (RefusedInside S.Store (day_texts kept.now rows.now) tx.old.conn.now tx.new.conn.now) }
     ensures ran { HasCleanDisk (state S.Store tx.new.conn.now)
         → IsTrue (state S.Store tx.old.conn.now).in_transaction
         → OnOk result (RanAll S.Store (day_texts kept.now rows.now) tx.old.conn.now tx.new.conn.now) }
@@ -70,7 +70,7 @@ pub fn put_record<S: Alter>(tx: &mut Transaction<'_, S>, kept: &DayRecord) -> Re
         → StaysInside (state S.Store tx.old.conn.now) (state S.Store tx.new.conn.now) result }
     ensures refused { HasCleanDisk (state S.Store tx.new.conn.now)
         → IsTrue (state S.Store tx.old.conn.now).in_transaction
-        → IfErr result (RefusedInside S.Store (WritesRecord kept.now) tx.old.conn.now tx.new.conn.now) }
+        → IfErr result (RefusedInside S.Store (record_text kept.now ∷ []) tx.old.conn.now tx.new.conn.now) }
     ensures ran { HasCleanDisk (state S.Store tx.new.conn.now)
         → IsTrue (state S.Store tx.old.conn.now).in_transaction
         → OnOk result (RanAll S.Store (record_text kept.now ∷ []) tx.old.conn.now tx.new.conn.now) }
@@ -106,7 +106,7 @@ pub fn put_seal<S: Alter>(tx: &mut Transaction<'_, S>, day: u32, seal: &Digest) 
         → StaysInside (state S.Store tx.old.conn.now) (state S.Store tx.new.conn.now) result }
     ensures refused { HasCleanDisk (state S.Store tx.new.conn.now)
         → IsTrue (state S.Store tx.old.conn.now).in_transaction
-        → IfErr result (RefusedInside S.Store (WritesSeal day seal.now) tx.old.conn.now tx.new.conn.now) }
+        → IfErr result (RefusedInside S.Store (seal_text day seal.now ∷ []) tx.old.conn.now tx.new.conn.now) }
     ensures ran { HasCleanDisk (state S.Store tx.new.conn.now)
         → IsTrue (state S.Store tx.old.conn.now).in_transaction
         → OnOk result (RanAll S.Store (seal_text day seal.now ∷ []) tx.old.conn.now tx.new.conn.now) }

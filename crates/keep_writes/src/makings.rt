@@ -11,10 +11,11 @@ ghost use Rattle.keep_tables.specs.Steps.{StaysInside};
 ghost use Rattle.keep_tables.specs.Texts.{list_days};
 ghost use Rattle.keep_writes.specs.Growth.{Stood, IsUnderstood, SaysIf, LacksVersion, CommitsGrown, CommitsHere};
 ghost use Rattle.keep_writes.specs.Growth.{CommitsListed, CommitsOpen, CommitsSame, HasVersion, IsOurs};
-ghost use Rattle.keep_writes.specs.Growth.{PutsVersion, CommitsVersion, IsAtRest};
+ghost use Rattle.keep_writes.specs.Growth.{IsAtRest};
 ghost use Rattle.keep_writes.specs.Objects.{Lists, MayBeMade, texts_of};
 ghost use Rattle.keep_writes.specs.Unmade.{new_texts, lacking_texts, MakesTables, EndsTables, EndsInside};
-ghost use Rattle.keep_writes.specs.Unmade.{IsUnmade, SeesCommitted};
+ghost use Rattle.keep_writes.specs.Unmade.{CommitsTables, IsUnmade, SeesCommitted};
+ghost use Rattle.keep_writes.specs.Unmade.{LeavesGrown, LeavesListed, LeavesHere, LeavesOpen, LeavesTables};
 
 use crate::objects::{are_texts, list_texts};
 use crate::seals::seal_tables;
@@ -36,11 +37,12 @@ pub fn make<S: Alter>(conn: &mut Connection<S>, alloc: Global) -> Result<(), Err
     ensures rest { HasCleanDisk (state S.Store conn.new) → OnOk result (IsAtRest (state S.Store conn.new)) }
     ensures there { HasCleanDisk (state S.Store conn.new) → HasVersion (state S.Store conn.old).committed
         → KeepsCommit (state S.Store conn.old) (state S.Store conn.new) }
-    ensures second { HasCleanDisk (state S.Store conn.new) → LacksVersion (state S.Store conn.old).committed
-        → OnOk result (CommitsVersion S.Store conn.new) }
+    ensures wrote { HasCleanDisk (state S.Store conn.new) → LacksVersion (state S.Store conn.old).committed
+        → OnOk result (CommitsTables S.Store conn.old conn.new) }
     ensures refused { HasCleanDisk (state S.Store conn.new)
         → OnErr result (KeepsCommit (state S.Store conn.old) (state S.Store conn.new)) }
     ensures why { HasCleanDisk (state S.Store conn.new) → IfErr result (IsUnmade S.Store conn.old conn.new) }
+    ensures leaves { Survives (state S.Store conn.old) (state S.Store conn.new) (LeavesTables S.Store conn.old) }
     ensures crash { Survives (state S.Store conn.old) (state S.Store conn.new) (CommitsSame
         (state S.Store conn.old).committed) }
 {
@@ -65,11 +67,12 @@ fn make_here<S: Alter>(conn: &mut Connection<S>, alloc: Global) -> Result<(), Er
         → (state S.Store conn.old).in_transaction ≡ false → OnOk result (IsAtRest (state S.Store conn.new)) }
     ensures there { HasCleanDisk (state S.Store conn.new) → HasVersion (state S.Store conn.old).now
         → KeepsCommit (state S.Store conn.old) (state S.Store conn.new) }
-    ensures second { HasCleanDisk (state S.Store conn.new) → LacksVersion (state S.Store conn.old).now
-        → OnOk result (CommitsVersion S.Store conn.new) }
+    ensures wrote { HasCleanDisk (state S.Store conn.new) → SeesCommitted (state S.Store conn.old)
+        → LacksVersion (state S.Store conn.old).now → OnOk result (CommitsTables S.Store conn.old conn.new) }
     ensures why { HasCleanDisk (state S.Store conn.new) → SeesCommitted (state S.Store conn.old)
         → IfErr result (λ e. IsTrue (state S.Store conn.old).in_transaction
         ⊎ IsUnmade S.Store conn.old conn.new e) }
+    ensures leaves { Survives (state S.Store conn.old) (state S.Store conn.new) (LeavesOpen S.Store conn.old) }
     ensures crash { Survives (state S.Store conn.old) (state S.Store conn.new) (CommitsOpen (state S.Store conn.old)) }
 {
     if is_there(conn, "SELECT version FROM form WHERE one = 1")? {
@@ -91,10 +94,12 @@ fn grow_by<S: Alter>(conn: &mut Connection<S>, alloc: Global) -> Result<(), Erro
         → KeepsCommit (state S.Store conn.old) (state S.Store conn.new) }
     ensures ours { HasCleanDisk (state S.Store conn.new) → OnOk result (MayBeMade (state S.Store conn.old).now) }
     ensures rest { HasCleanDisk (state S.Store conn.new) → OnOk result (IsAtRest (state S.Store conn.new)) }
-    ensures second { HasCleanDisk (state S.Store conn.new) → OnOk result (CommitsVersion S.Store conn.new) }
+    ensures wrote { HasCleanDisk (state S.Store conn.new) → SeesCommitted (state S.Store conn.old)
+        → OnOk result (CommitsTables S.Store conn.old conn.new) }
     ensures why { HasCleanDisk (state S.Store conn.new) → SeesCommitted (state S.Store conn.old)
         → IfErr result (λ e. IsTrue (state S.Store conn.old).in_transaction
         ⊎ IsUnmade S.Store conn.old conn.new e) }
+    ensures leaves { Survives (state S.Store conn.old) (state S.Store conn.new) (LeavesHere S.Store conn.old) }
     ensures crash { Survives (state S.Store conn.old) (state S.Store conn.new) (CommitsHere (state S.Store conn.old)) }
 {
     let is_old = is_there(conn, "SELECT day FROM days ORDER BY day")?;
@@ -114,11 +119,14 @@ fn grow_listed<S: Alter>(conn: &mut Connection<S>, alloc: Global, is_old: bool) 
     ensures listed { HasCleanDisk (state S.Store conn.new)
         → OnOk result (Lists (state S.Store conn.old).now (texts_of is_old)) }
     ensures rest { HasCleanDisk (state S.Store conn.new) → OnOk result (IsAtRest (state S.Store conn.new)) }
-    ensures second { HasCleanDisk (state S.Store conn.new) → OnOk result (CommitsVersion S.Store conn.new) }
+    ensures wrote { HasCleanDisk (state S.Store conn.new) → SeesCommitted (state S.Store conn.old)
+        → SaysIf is_old (IsUnderstood (understood (state S.Store conn.old).now.schema list_days))
+        → OnOk result (CommitsTables S.Store conn.old conn.new) }
     ensures why { HasCleanDisk (state S.Store conn.new) → SeesCommitted (state S.Store conn.old)
         → SaysIf is_old (IsUnderstood (understood (state S.Store conn.old).now.schema list_days))
         → IfErr result (λ e. IsTrue (state S.Store conn.old).in_transaction
         ⊎ IsUnmade S.Store conn.old conn.new e) }
+    ensures leaves { Survives (state S.Store conn.old) (state S.Store conn.new) (LeavesListed S.Store is_old conn.old) }
     ensures crash { Survives (state S.Store conn.old) (state S.Store conn.new) (CommitsListed is_old
         (state S.Store conn.old)) }
 {
@@ -137,13 +145,17 @@ fn grow<S: Alter>(conn: &mut Connection<S>, alloc: Global, is_old: bool) -> Resu
         → IsTrue (state S.Store conn.old).is_open }
     ensures refused { HasCleanDisk (state S.Store conn.new)
         → OnErr result (KeepsCommit (state S.Store conn.old) (state S.Store conn.new)) }
-    ensures second { HasCleanDisk (state S.Store conn.new) → OnOk result (CommitsVersion S.Store conn.new) }
+    ensures wrote { HasCleanDisk (state S.Store conn.new) → SeesCommitted (state S.Store conn.old)
+        → SaysIf is_old (IsUnderstood (understood (state S.Store conn.old).now.schema list_days))
+        → Lists (state S.Store conn.old).now (texts_of is_old)
+        → OnOk result (CommitsTables S.Store conn.old conn.new) }
     ensures rest { HasCleanDisk (state S.Store conn.new) → OnOk result (IsAtRest (state S.Store conn.new)) }
     ensures why { HasCleanDisk (state S.Store conn.new) → SeesCommitted (state S.Store conn.old)
         → SaysIf is_old (IsUnderstood (understood (state S.Store conn.old).now.schema list_days))
         → Lists (state S.Store conn.old).now (texts_of is_old)
         → IfErr result (λ e. IsTrue (state S.Store conn.old).in_transaction
         ⊎ IsUnmade S.Store conn.old conn.new e) }
+    ensures leaves { Survives (state S.Store conn.old) (state S.Store conn.new) (LeavesGrown S.Store is_old conn.old) }
     ensures crash { Survives (state S.Store conn.old) (state S.Store conn.new) (CommitsGrown is_old
         (state S.Store conn.old)) }
 {
@@ -166,9 +178,6 @@ fn write_tables<S: Alter>(
         → IsTrue (state S.Store tx.old.conn.now).in_transaction → (o : Office)
         → Stood is_old (state S.Store tx.old.conn.now).now o
         → OnOk result (HasOffice (state S.Store tx.new.conn.now).now o) }
-    ensures ran { HasCleanDisk (state S.Store tx.new.conn.now)
-        → IsTrue (state S.Store tx.old.conn.now).in_transaction
-        → OnOk result (PutsVersion S.Store tx.new.conn.now) }
     ensures inside { HasCleanDisk (state S.Store tx.new.conn.now)
         → IsTrue (state S.Store tx.old.conn.now).in_transaction
         → StaysInside (state S.Store tx.old.conn.now) (state S.Store tx.new.conn.now) result }
@@ -194,9 +203,6 @@ fn finish_tables<S: Alter>(tx: &mut Transaction<'_, S>, alloc: Global) -> Result
     ensures wrote { HasCleanDisk (state S.Store tx.new.conn.now)
         → IsTrue (state S.Store tx.old.conn.now).in_transaction → (o : Office)
         → HasOld (state S.Store tx.old.conn.now).now o → OnOk result (HasOffice (state S.Store tx.new.conn.now).now o) }
-    ensures ran { HasCleanDisk (state S.Store tx.new.conn.now)
-        → IsTrue (state S.Store tx.old.conn.now).in_transaction
-        → OnOk result (PutsVersion S.Store tx.new.conn.now) }
     ensures inside { HasCleanDisk (state S.Store tx.new.conn.now)
         → IsTrue (state S.Store tx.old.conn.now).in_transaction
         → StaysInside (state S.Store tx.old.conn.now) (state S.Store tx.new.conn.now) result }

@@ -8,7 +8,7 @@ ghost use Rattle.keep_tables.specs.Stands.{Contents, Holds, HasOffice, FitsPast,
 ghost use Rattle.keep_tables.specs.Steps.{StaysInside};
 ghost use Rattle.keep_writes.specs.Causes.{RefusedInside};
 ghost use Rattle.keep_writes.specs.Runs.{RanAll};
-ghost use Rattle.keep_writes.specs.Writes.{WritesPast, WritesHistory, history_text, past_texts};
+ghost use Rattle.keep_writes.specs.Writes.{history_text, past_texts};
 
 use crate::columns::{bytes_of, column};
 use crate::spent_writes::put_amounts;
@@ -33,7 +33,7 @@ pub fn write_past<S: Alter>(
         → StaysInside (state S.Store tx.old.conn.now) (state S.Store tx.new.conn.now) result }
     ensures refused { HasCleanDisk (state S.Store tx.new.conn.now)
         → IsTrue (state S.Store tx.old.conn.now).in_transaction
-        → IfErr result (RefusedInside S.Store (WritesPast kept.now rows.now) tx.old.conn.now tx.new.conn.now) }
+        → IfErr result (RefusedInside S.Store (past_texts kept.now rows.now) tx.old.conn.now tx.new.conn.now) }
     ensures ran { HasCleanDisk (state S.Store tx.new.conn.now)
         → IsTrue (state S.Store tx.old.conn.now).in_transaction
         → OnOk result (RanAll S.Store (past_texts kept.now rows.now) tx.old.conn.now tx.new.conn.now) }
@@ -58,7 +58,7 @@ fn put_history<S: Alter>(tx: &mut Transaction<'_, S>, kept: &PastRecord) -> Resu
         → StaysInside (state S.Store tx.old.conn.now) (state S.Store tx.new.conn.now) result }
     ensures refused { HasCleanDisk (state S.Store tx.new.conn.now)
         → IsTrue (state S.Store tx.old.conn.now).in_transaction
-        → IfErr result (RefusedInside S.Store (WritesHistory kept.now) tx.old.conn.now tx.new.conn.now) }
+        → IfErr result (RefusedInside S.Store (history_text kept.now ∷ []) tx.old.conn.now tx.new.conn.now) }
     ensures ran { HasCleanDisk (state S.Store tx.new.conn.now)
         → IsTrue (state S.Store tx.old.conn.now).in_transaction
         → OnOk result (RanAll S.Store (history_text kept.now ∷ []) tx.old.conn.now tx.new.conn.now) }

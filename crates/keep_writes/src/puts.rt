@@ -11,9 +11,9 @@ ghost use Rattle.keep_office.specs.declared.kept.KeepFault.TheVariants.{NoMemory
 ghost use Rattle.keep_tables.specs.Stands.{HasOffice};
 ghost use Rattle.keep_tables.specs.Steps.{CommitsFor, CommitsNow, FitsAny};
 ghost use Rattle.keep_writes.specs.Causes.{RefusedOf, HasCauseOf, IsTold};
-ghost use Rattle.keep_writes.specs.Runs.{CommitsRun};
+ghost use Rattle.keep_writes.specs.Runs.{CommitsRun, LeavesNow, LeavesRun};
 ghost use Rattle.keep_writes.specs.Unmade.{SeesCommitted};
-ghost use Rattle.keep_writes.specs.Writes.{WritesDay, WritesPast, WritesTariff, day_texts, past_texts, tariff_texts};
+ghost use Rattle.keep_writes.specs.Writes.{day_texts, past_texts, tariff_texts};
 
 use crate::day_writes::write_day;
 use crate::past_writes::write_past;
@@ -39,13 +39,15 @@ pub fn put_day<S: Alter>(
     ensures refused { HasCleanDisk (state S.Store conn.new)
         → OnErr result (KeepsCommit (state S.Store conn.old) (state S.Store conn.new)) }
     ensures why { HasCleanDisk (state S.Store conn.new)
-        → IfErr result (HasCauseOf S.Store (WritesDay kept.now rows.now) conn.old conn.new) }
+        → IfErr result (HasCauseOf S.Store (day_texts kept.now rows.now) conn.old conn.new) }
     ensures wrote { HasCleanDisk (state S.Store conn.new)
         → OnOk result (CommitsRun S.Store (day_texts kept.now rows.now) conn.old conn.new) }
     ensures told { HasCleanDisk (state S.Store conn.new)
-        → OnErr result (IsTold S.Store (WritesDay kept.now rows.now) conn.old conn.new why.new) }
+        → OnErr result (IsTold S.Store (day_texts kept.now rows.now) conn.old conn.new why.new) }
     ensures named { IfErr result (λ fault. (fault ≡ NoMemory) ↔ (why.new ≡ Some (SqliteFailure OutOfMemory))) }
     ensures quiet { OnOk result (why.new ≡ why.old) }
+    ensures leaves { Survives (state S.Store conn.old) (state S.Store conn.new) (LeavesRun S.Store
+        (day_texts kept.now rows.now) conn.old) }
     ensures crash { Survives (state S.Store conn.old) (state S.Store conn.new) (CommitsFor (IsLater kept.now.day)
         (with_day kept.now rows.now) (state S.Store conn.old).committed) }
 {
@@ -74,9 +76,11 @@ fn keep_day<S: Alter>(
         → OnErr result (KeepsCommit (state S.Store conn.old) (state S.Store conn.new)) }
     ensures because { HasCleanDisk (state S.Store conn.new) → SeesCommitted (state S.Store conn.old)
         → IfErr result (λ e. IsTrue (state S.Store conn.old).in_transaction
-        ⊎ RefusedOf S.Store (WritesDay kept.now rows.now) conn.old conn.new e) }
+        ⊎ RefusedOf S.Store (day_texts kept.now rows.now) conn.old conn.new e) }
     ensures wrote { HasCleanDisk (state S.Store conn.new) → SeesCommitted (state S.Store conn.old)
         → OnOk result (CommitsRun S.Store (day_texts kept.now rows.now) conn.old conn.new) }
+    ensures leaves { Survives (state S.Store conn.old) (state S.Store conn.new) (LeavesNow S.Store
+        (day_texts kept.now rows.now) conn.old) }
     ensures crash { Survives (state S.Store conn.old) (state S.Store conn.new) (CommitsNow (IsLater kept.now.day)
         (with_day kept.now rows.now) (state S.Store conn.old)) }
 {
@@ -103,13 +107,15 @@ pub fn put_past<S: Alter>(
     ensures refused { HasCleanDisk (state S.Store conn.new)
         → OnErr result (KeepsCommit (state S.Store conn.old) (state S.Store conn.new)) }
     ensures why { HasCleanDisk (state S.Store conn.new)
-        → IfErr result (HasCauseOf S.Store (WritesPast kept.now rows.now) conn.old conn.new) }
+        → IfErr result (HasCauseOf S.Store (past_texts kept.now rows.now) conn.old conn.new) }
     ensures wrote { HasCleanDisk (state S.Store conn.new)
         → OnOk result (CommitsRun S.Store (past_texts kept.now rows.now) conn.old conn.new) }
     ensures told { HasCleanDisk (state S.Store conn.new)
-        → OnErr result (IsTold S.Store (WritesPast kept.now rows.now) conn.old conn.new why.new) }
+        → OnErr result (IsTold S.Store (past_texts kept.now rows.now) conn.old conn.new why.new) }
     ensures named { IfErr result (λ fault. (fault ≡ NoMemory) ↔ (why.new ≡ Some (SqliteFailure OutOfMemory))) }
     ensures quiet { OnOk result (why.new ≡ why.old) }
+    ensures leaves { Survives (state S.Store conn.old) (state S.Store conn.new) (LeavesRun S.Store
+        (past_texts kept.now rows.now) conn.old) }
     ensures crash { Survives (state S.Store conn.old) (state S.Store conn.new) (CommitsFor HasNoDays
         (with_past kept.now rows.now) (state S.Store conn.old).committed) }
 {
@@ -137,9 +143,11 @@ fn keep_past<S: Alter>(
         → OnErr result (KeepsCommit (state S.Store conn.old) (state S.Store conn.new)) }
     ensures because { HasCleanDisk (state S.Store conn.new) → SeesCommitted (state S.Store conn.old)
         → IfErr result (λ e. IsTrue (state S.Store conn.old).in_transaction
-        ⊎ RefusedOf S.Store (WritesPast kept.now rows.now) conn.old conn.new e) }
+        ⊎ RefusedOf S.Store (past_texts kept.now rows.now) conn.old conn.new e) }
     ensures wrote { HasCleanDisk (state S.Store conn.new) → SeesCommitted (state S.Store conn.old)
         → OnOk result (CommitsRun S.Store (past_texts kept.now rows.now) conn.old conn.new) }
+    ensures leaves { Survives (state S.Store conn.old) (state S.Store conn.new) (LeavesNow S.Store
+        (past_texts kept.now rows.now) conn.old) }
     ensures crash { Survives (state S.Store conn.old) (state S.Store conn.new) (CommitsNow HasNoDays
         (with_past kept.now rows.now) (state S.Store conn.old)) }
 {
@@ -166,13 +174,15 @@ pub fn put_tariff<S: Alter>(
     ensures refused { HasCleanDisk (state S.Store conn.new)
         → OnErr result (KeepsCommit (state S.Store conn.old) (state S.Store conn.new)) }
     ensures why { HasCleanDisk (state S.Store conn.new)
-        → IfErr result (HasCauseOf S.Store (WritesTariff xway tariff.now) conn.old conn.new) }
+        → IfErr result (HasCauseOf S.Store (tariff_texts xway tariff.now) conn.old conn.new) }
     ensures wrote { HasCleanDisk (state S.Store conn.new)
         → OnOk result (CommitsRun S.Store (tariff_texts xway tariff.now) conn.old conn.new) }
     ensures told { HasCleanDisk (state S.Store conn.new)
-        → OnErr result (IsTold S.Store (WritesTariff xway tariff.now) conn.old conn.new why.new) }
+        → OnErr result (IsTold S.Store (tariff_texts xway tariff.now) conn.old conn.new why.new) }
     ensures named { IfErr result (λ fault. (fault ≡ NoMemory) ↔ (why.new ≡ Some (SqliteFailure OutOfMemory))) }
     ensures quiet { OnOk result (why.new ≡ why.old) }
+    ensures leaves { Survives (state S.Store conn.old) (state S.Store conn.new) (LeavesRun S.Store
+        (tariff_texts xway tariff.now) conn.old) }
     ensures crash { Survives (state S.Store conn.old) (state S.Store conn.new) (CommitsFor FitsAny
         (with_tariff_of xway tariff.now) (state S.Store conn.old).committed) }
 {
@@ -196,9 +206,11 @@ fn replace<S: Alter>(conn: &mut Connection<S>, xway: u8, tariff: &Tariff) -> Res
         → OnErr result (KeepsCommit (state S.Store conn.old) (state S.Store conn.new)) }
     ensures because { HasCleanDisk (state S.Store conn.new) → SeesCommitted (state S.Store conn.old)
         → IfErr result (λ e. IsTrue (state S.Store conn.old).in_transaction
-        ⊎ RefusedOf S.Store (WritesTariff xway tariff.now) conn.old conn.new e) }
+        ⊎ RefusedOf S.Store (tariff_texts xway tariff.now) conn.old conn.new e) }
     ensures wrote { HasCleanDisk (state S.Store conn.new) → SeesCommitted (state S.Store conn.old)
         → OnOk result (CommitsRun S.Store (tariff_texts xway tariff.now) conn.old conn.new) }
+    ensures leaves { Survives (state S.Store conn.old) (state S.Store conn.new) (LeavesNow S.Store
+        (tariff_texts xway tariff.now) conn.old) }
     ensures crash { Survives (state S.Store conn.old) (state S.Store conn.new) (CommitsNow FitsAny
         (with_tariff_of xway tariff.now) (state S.Store conn.old)) }
 {

@@ -8,7 +8,7 @@ ghost use Rattle.keep_tables.specs.Stands.{FitsSpent};
 ghost use Rattle.keep_tables.specs.Steps.{StaysInside, AddsAmounts};
 ghost use Rattle.keep_writes.specs.Causes.{RefusedInside};
 ghost use Rattle.keep_writes.specs.Runs.{RanAll};
-ghost use Rattle.keep_writes.specs.Writes.{WritesAmount, WritesAmounts, amount_text};
+ghost use Rattle.keep_writes.specs.Writes.{amount_text};
 
 use crate::columns::column;
 use road_time::SpentRow;
@@ -34,7 +34,7 @@ pub fn put_amount<S: Alter>(
         → StaysInside (state S.Store tx.old.conn.now) (state S.Store tx.new.conn.now) result }
     ensures refused { HasCleanDisk (state S.Store tx.new.conn.now)
         → IsTrue (state S.Store tx.old.conn.now).in_transaction
-        → IfErr result (RefusedInside S.Store (WritesAmount row.now) tx.old.conn.now tx.new.conn.now) }
+        → IfErr result (RefusedInside S.Store (amount_text row.now ∷ []) tx.old.conn.now tx.new.conn.now) }
     ensures ran { HasCleanDisk (state S.Store tx.new.conn.now)
         → IsTrue (state S.Store tx.old.conn.now).in_transaction
         → OnOk result (RanAll S.Store (amount_text row.now ∷ []) tx.old.conn.now tx.new.conn.now) }
@@ -66,7 +66,7 @@ pub fn put_amounts<S: Alter>(tx: &mut Transaction<'_, S>, rows: &[SpentRow]) -> 
         → StaysInside (state S.Store tx.old.conn.now) (state S.Store tx.new.conn.now) result }
     ensures refused { HasCleanDisk (state S.Store tx.new.conn.now)
         → IsTrue (state S.Store tx.old.conn.now).in_transaction
-        → IfErr result (RefusedInside S.Store (WritesAmounts rows.now) tx.old.conn.now tx.new.conn.now) }
+        → IfErr result (RefusedInside S.Store (map amount_text rows.now) tx.old.conn.now tx.new.conn.now) }
     ensures ran { HasCleanDisk (state S.Store tx.new.conn.now)
         → IsTrue (state S.Store tx.old.conn.now).in_transaction
         → OnOk result (RanAll S.Store (map amount_text rows.now) tx.old.conn.now tx.new.conn.now) }

@@ -5,7 +5,7 @@ ghost use Rattle.sqlite.specs.State.{HasCleanDisk, ExecutesInside, Survives};
 ghost use Rattle.keep_office.specs.Office.{Office};
 ghost use Rattle.keep_tables.specs.Stands.{Contents, Holds, HoldsAs, HasOld, HasNothing};
 ghost use Rattle.keep_tables.specs.Steps.{StaysInside};
-ghost use Rattle.keep_writes.specs.Growth.{TextRan, RanInside, IsUnsealed, PutsVersion};
+ghost use Rattle.keep_writes.specs.Growth.{TextRan, RanInside, IsUnsealed};
 ghost use Rattle.keep_tables.specs.Texts.{put_version as put_version_text};
 ghost use Rattle.keep_writes.specs.Runs.{IsText, RanOne, RanAll};
 ghost use Rattle.keep_writes.specs.Unmade.{old_texts, new_texts, RefusesEach, EndsInside};
@@ -114,9 +114,6 @@ pub fn put_version<S: Alter>(tx: &mut Transaction<'_, S>) -> Result<(), Error>
     ensures puts { HasCleanDisk (state S.Store tx.new.conn.now)
         → IsTrue (state S.Store tx.old.conn.now).in_transaction → (c : Contents)
         → HoldsAs [] (state S.Store tx.old.conn.now).now c → OnOk result (Holds (state S.Store tx.new.conn.now).now c) }
-    ensures ran { HasCleanDisk (state S.Store tx.new.conn.now)
-        → IsTrue (state S.Store tx.old.conn.now).in_transaction
-        → OnOk result (PutsVersion S.Store tx.new.conn.now) }
     ensures inside { HasCleanDisk (state S.Store tx.new.conn.now)
         → IsTrue (state S.Store tx.old.conn.now).in_transaction
         → StaysInside (state S.Store tx.old.conn.now) (state S.Store tx.new.conn.now) result }

@@ -1,6 +1,5 @@
 // The statements of a put of a tariff.
-ghost use Rattle.std.specs.Prelude.{◌≡◌, [], ◌∷◌, pos, false, Err, IsTrue, IfErr, OnOk};
-ghost use Rattle.sqlite_value.specs.declared.value.Value.TheVariants.{Int};
+ghost use Rattle.std.specs.Prelude.{◌≡◌, [], ◌∷◌, false, Err, IsTrue, IfErr, OnOk};
 ghost use Rattle.sqlite.specs.Held.{state};
 ghost use Rattle.sqlite.specs.State.{HasCleanDisk, KeepsCommit, Survives, ExecutesInside};
 ghost use Rattle.road_time.specs.Rates.{IsTariff, benchmark, same_tariff};
@@ -8,10 +7,9 @@ ghost use Rattle.keep_office.specs.Office.{Office};
 ghost use Rattle.keep_office.specs.Kept.{with_tariff_of};
 ghost use Rattle.keep_tables.specs.Stands.{HasOffice};
 ghost use Rattle.keep_tables.specs.Steps.{StaysInside};
-ghost use Rattle.keep_tables.specs.Shown.{tariff_columns};
-ghost use Rattle.keep_writes.specs.Causes.{LeftByDrop, RefusedInside};
+ghost use Rattle.keep_writes.specs.Causes.{RefusedInside};
 ghost use Rattle.keep_writes.specs.Runs.{RanAll};
-ghost use Rattle.keep_writes.specs.Writes.{WritesTariff, WritesTaken, WritesGiven, taken_text, given_text, tariff_texts};
+ghost use Rattle.keep_writes.specs.Writes.{taken_text, given_text, tariff_texts};
 
 use road_time::Tariff;
 use sqlite::{Alter, Error, Transaction, params};
@@ -29,7 +27,7 @@ pub fn write<S: Alter>(tx: &mut Transaction<'_, S>, xway: u8, tariff: &Tariff) -
         → StaysInside (state S.Store tx.old.conn.now) (state S.Store tx.new.conn.now) result }
     ensures refused { HasCleanDisk (state S.Store tx.new.conn.now)
         → IsTrue (state S.Store tx.old.conn.now).in_transaction
-        → IfErr result (RefusedInside S.Store (WritesTariff xway tariff.now) tx.old.conn.now tx.new.conn.now) }
+        → IfErr result (RefusedInside S.Store (tariff_texts xway tariff.now) tx.old.conn.now tx.new.conn.now) }
     ensures ran { HasCleanDisk (state S.Store tx.new.conn.now)
         → IsTrue (state S.Store tx.old.conn.now).in_transaction
         → OnOk result (RanAll S.Store (tariff_texts xway tariff.now) tx.old.conn.now tx.new.conn.now) }
@@ -54,13 +52,10 @@ fn take<S: Alter>(tx: &mut Transaction<'_, S>, xway: u8) -> Result<(), Error>
         → StaysInside (state S.Store tx.old.conn.now) (state S.Store tx.new.conn.now) result }
     ensures refused { HasCleanDisk (state S.Store tx.new.conn.now)
         → IsTrue (state S.Store tx.old.conn.now).in_transaction
-        → IfErr result (RefusedInside S.Store (WritesTaken xway) tx.old.conn.now tx.new.conn.now) }
+        → IfErr result (RefusedInside S.Store (taken_text xway ∷ []) tx.old.conn.now tx.new.conn.now) }
     ensures ran { HasCleanDisk (state S.Store tx.new.conn.now)
         → IsTrue (state S.Store tx.old.conn.now).in_transaction
         → OnOk result (RanAll S.Store (taken_text xway ∷ []) tx.old.conn.now tx.new.conn.now) }
-    ensures dropped { HasCleanDisk (state S.Store tx.new.conn.now)
-        → IsTrue (state S.Store tx.old.conn.now).in_transaction
-        → OnOk result (LeftByDrop S.Store (Int (pos xway) ∷ []) tx.new.conn.now) }
     ensures survives { Survives (state S.Store tx.old.conn.now) (state S.Store tx.new.conn.now) (λ _. ⊥) }
 {
     match tx.execute(
@@ -86,8 +81,7 @@ fn give<S: Alter>(tx: &mut Transaction<'_, S>, xway: u8, tariff: &Tariff) -> Res
         → StaysInside (state S.Store tx.old.conn.now) (state S.Store tx.new.conn.now) result }
     ensures refused { HasCleanDisk (state S.Store tx.new.conn.now)
         → IsTrue (state S.Store tx.old.conn.now).in_transaction
-        → LeftByDrop S.Store (tariff_columns (xway, tariff.now)) tx.old.conn.now
-        → IfErr result (RefusedInside S.Store (WritesGiven xway tariff.now) tx.old.conn.now tx.new.conn.now) }
+        → IfErr result (RefusedInside S.Store (given_text xway tariff.now ∷ []) tx.old.conn.now tx.new.conn.now) }
     ensures ran { HasCleanDisk (state S.Store tx.new.conn.now)
         → IsTrue (state S.Store tx.old.conn.now).in_transaction
         → OnOk result (RanAll S.Store (given_text xway tariff.now ∷ []) tx.old.conn.now tx.new.conn.now) }

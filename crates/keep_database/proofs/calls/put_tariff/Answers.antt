@@ -10,9 +10,9 @@ use Rattle.keep_tables.proofs.StepLaws.{kept_then}
 use Rattle.keep_writes.proofs.GrowLaws.{err_stands}
 use Rattle.keep_database.proofs.StandLaws.{put_stands, put_lasts, spared_after, always}
 use Rattle.keep_database.proofs.CauseSteps.{causes_after, told_after, on_err, on_else}
-use Rattle.keep_writes.specs.Writes.{WritesTariff, tariff_texts}
+use Rattle.keep_writes.specs.Writes.{tariff_texts}
 use Rattle.keep_writes.proofs.CauseLaws.{err_handed, cause_idle, on_then}
-use Rattle.keep_writes.proofs.RunLaws.{commits_after}
+use Rattle.keep_writes.proofs.RunLaws.{commits_after, leaves_behind}
 use Rattle.keep_database.proofs.calls.put_tariff.Goals as goal
 
 pub returns-in_err-ready-clause-put : goal.returns-in_err-ready-clause-put
@@ -23,7 +23,7 @@ returns-in_err-ready-clause-put g c clean here o stands =
 pub returns-in_err-ready-clause-why : goal.returns-in_err-ready-clause-why
 returns-in_err-ready-clause-why g c clean o stands =
     err_handed c.from_residual.result c.in_err-ready.field-0.0 _ c.from_residual.ensures.1
-    (cause_idle g.S.Store (WritesTariff c.args.xway c.args.tariff.now) c.args.conn.now c.ready.new.conn
+    (cause_idle g.S.Store (tariff_texts c.args.xway c.args.tariff.now) c.args.conn.now c.ready.new.conn
     c.in_err-ready.field-0.0 (c.in_err-ready.ensures.why clean o stands))
 
 pub returns-clause-put : goal.returns-clause-put
@@ -41,7 +41,7 @@ pub returns-clause-why : goal.returns-clause-why
 returns-clause-why g c clean o stands =
     causes_after g.S.Store c.args.conn.now c.ready.new.conn c.put_tariff.new.conn
     (c.ready.ensures.kept (omega (arith, c.put_tariff.ensures.crash.clean))) c.ready.ensures.survives
-    (WritesTariff c.args.xway c.args.tariff.now) c.put_tariff.result
+    (tariff_texts c.args.xway c.args.tariff.now) c.put_tariff.result
     (c.put_tariff.ensures.why clean)
 
 pub returns-clause-crash : goal.returns-clause-crash
@@ -72,7 +72,7 @@ returns-in_err-ready-clause-told g c clean =
 
 pub returns-clause-told : goal.returns-clause-told
 returns-clause-told g c clean =
-    told_after g.S.Store (WritesTariff c.args.xway c.args.tariff.now) c.args.conn.now c.ready.new.conn
+    told_after g.S.Store (tariff_texts c.args.xway c.args.tariff.now) c.args.conn.now c.ready.new.conn
     c.put_tariff.new.conn (c.ready.ensures.kept (omega (arith, c.put_tariff.ensures.crash.clean)))
     c.ready.ensures.survives c.put_tariff.result _ _ _ (c.put_tariff.ensures.told clean) c.put_tariff.ensures.named
 
@@ -96,3 +96,13 @@ pub returns-clause-spares : goal.returns-clause-spares
 returns-clause-spares g c =
     spared_after g.S.Store c.args.conn.now c.ready.new.conn c.put_tariff.new.conn _ c.in_ok-ready.ensures.version
     c.ready.ensures.survives c.put_tariff.ensures.crash
+
+pub returns-in_err-ready-clause-leaves : goal.returns-in_err-ready-clause-leaves
+returns-in_err-ready-clause-leaves g c =
+    survives_weaker (state g.S.Store c.args.conn.now) (state g.S.Store c.ready.new.conn) (λ _. ⊥) _
+    (λ _ db none. absurd none) c.ready.ensures.survives
+
+pub returns-clause-leaves : goal.returns-clause-leaves
+returns-clause-leaves g c =
+    leaves_behind g.S.Store (tariff_texts c.args.xway c.args.tariff.now) c.args.conn.now c.ready.new.conn c.put_tariff.new.conn c.ready.ensures.kept
+    c.ready.ensures.survives c.put_tariff.ensures.leaves

@@ -1,4 +1,4 @@
-use Rattle.std.proofs.Common.{◌∙◌, arith, inl, inr}
+use Rattle.std.proofs.Common.{[], ◌∙◌, arith, inl, inr}
 use Rattle.sqlite.specs.Held.{state}
 use Rattle.sqlite.specs.State.{HasCleanDisk}
 use Rattle.sqlite.specs.Values.{bound}
@@ -6,13 +6,12 @@ use Rattle.sqlite.proofs.StateLemmas.{survives_weaker}
 use Rattle.keep_tables.proofs.AskLaws.{asked_keeps, asked_changes_nothing, asked_commits_nothing}
 use Rattle.keep_tables.proofs.PutLaws.{survives_both}
 use Rattle.keep_tables.proofs.StepLaws.{kept_then}
-use Rattle.keep_writes.specs.Writes.{WritesNothing}
 use Rattle.keep_writes.proofs.CauseLaws.{cause_of, refused_after, refused_now}
 use Rattle.keep_database.proofs.looks.look.Goals as goal
 
 pub returns-in-Err-clause-why : goal.returns-in-Err-clause-why
 returns-in-Err-clause-why g c clean =
-    cause_of g.S.Store WritesNothing c.args.conn.now c.settle.new.conn c.refusal.result c.in-Err.error
+    cause_of g.S.Store [] c.args.conn.now c.settle.new.conn c.refusal.result c.in-Err.error
     c.refusal.ensures
     (c.in-Err.ensures.refused clean)
 
@@ -63,7 +62,7 @@ pub returns-in-Err-query_all-clause-why : goal.returns-in-Err-query_all-clause-w
 returns-in-Err-query_all-clause-why g c clean =
     let mid = c.settle.new.conn in
     let early : HasCleanDisk (state g.S.Store mid) = omega (arith, c.query_all.ensures.survives.clean) in
-    cause_of g.S.Store WritesNothing c.args.conn.now c.query_all.new.self c.refusal-in-Err-query_all.result
+    cause_of g.S.Store [] c.args.conn.now c.query_all.new.self c.refusal-in-Err-query_all.result
     c.in-Err-query_all.error
     c.refusal-in-Err-query_all.ensures
     (refused_after g.S.Store c.args.conn.now mid c.query_all.new.self _ (c.settle.ensures.kept early)

@@ -134,5 +134,6 @@ returns-clause-shows g c clean =
     let two = rw (c.params-to_sql-2.ensures) at (c.in_ok-seals.ensures.shown clean) in
     ok_then c.day_of.result _ _ c.day_of.ensures.exact
     (λ kept h. both_shown g.S.Store c.args.conn.now c.look.new.conn (c.look.ensures.kept early) c.look-2.new.conn
-    (c.look-2.ensures.kept clean) _ _ _ _ c.in_ok-found.found.items c.in_ok-seals.seals.items _ _ (λ l m. IsDayIn c.args.day l m kept) one two
+    (c.look-2.ensures.kept clean) _ _ _ _ c.in_ok-found.found.items c.in_ok-seals.seals.items _ _
+    (λ l m. IsDayIn c.args.day l m kept) one two
     c.deref.ensures.value c.deref-2.ensures.value h)

@@ -108,5 +108,6 @@ returns-clause-shows g c clean =
     let two = c.in_ok-found.ensures.shown clean in
     ok_then c.last_of.result _ _ c.last_of.ensures.exact
     (λ last h. both_shown g.S.Store c.args.conn.now c.look.new.conn (c.look.ensures.kept early) c.look-2.new.conn
-    (c.look-2.ensures.kept clean) _ _ _ _ c.in_ok-days.days.items c.in_ok-found.found.items _ _ (λ l m. IsLastIn l m last) one two
+    (c.look-2.ensures.kept clean) _ _ _ _ c.in_ok-days.days.items c.in_ok-found.found.items _ _
+    (λ l m. IsLastIn l m last) one two
     c.deref.ensures.value c.deref-2.ensures.value h)

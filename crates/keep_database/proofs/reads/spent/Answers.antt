@@ -44,7 +44,9 @@ returns-clause-memory g c clean none = absurd (c.amount_in.ensures.pure none)
 
 pub returns-clause-shows : goal.returns-clause-shows
 returns-clause-shows g c clean =
-    let shown = rw (c.params-to_sql.ensures, c.params-to_sql-2.ensures, c.params-to_sql-3.ensures, c.from.ensures) at (c.in_ok-found.ensures.shown clean) in
+    let shown =
+    rw (c.params-to_sql.ensures, c.params-to_sql-2.ensures, c.params-to_sql-3.ensures, c.from.ensures) at
+    (c.in_ok-found.ensures.shown clean) in
     ok_then c.amount_in.result _ _ c.amount_in.ensures.exact
     (λ tolls h. such_shown g.S.Store c.args.conn.now c.look.new.conn (c.look.ensures.kept clean) _ _
     c.in_ok-found.found.items _ (λ l. HasAmount l tolls) shown c.deref.ensures.value h)

@@ -59,7 +59,9 @@ returns-clause-memory g c clean o has none =
 
 pub returns-clause-shows : goal.returns-clause-shows
 returns-clause-shows g c clean =
-    let shown = rw (c.params-to_sql.ensures, c.params-to_sql-2.ensures, c.params-to_sql-3.ensures) at (c.in_ok-found.ensures.shown clean) in
+    let shown =
+    rw (c.params-to_sql.ensures, c.params-to_sql-2.ensures, c.params-to_sql-3.ensures) at
+    (c.in_ok-found.ensures.shown clean) in
     ok_then c.amounts_of.result _ _ c.amounts_of.ensures.exact
     (λ v h. such_shown g.S.Store c.args.conn.now c.look.new.conn (c.look.ensures.kept clean) _ _
     c.in_ok-found.found.items _ (λ l. AreAmounts l v.items) shown c.deref.ensures.value h)

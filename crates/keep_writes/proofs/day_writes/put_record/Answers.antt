@@ -4,7 +4,7 @@ use Rattle.keep_tables.specs.Texts.{put_day}
 use Rattle.keep_tables.proofs.DayWriteLaws.{day_puts}
 use Rattle.keep_tables.proofs.PutLaws.{whole_by}
 use Rattle.keep_writes.proofs.RunLaws.{all_once}
-use Rattle.keep_writes.proofs.CauseLaws.{text_refused, not_day}
+use Rattle.keep_writes.proofs.CauseLaws.{text_refused}
 use Rattle.keep_writes.proofs.day_writes.put_record.Goals as goal
 
 pub returns-in-Ok-clause-puts : goal.returns-in-Ok-clause-puts
@@ -62,8 +62,8 @@ returns-in-Err-clause-refused g c clean inside =
       c.column-notices.ensures,
       c.column-total.ensures,
     ) at (c.in-Err.ensures.runs clean inside) in
-    text_refused g.S.Store c.args.tx.now.conn.now c.execute.new.self.conn.now put_day _ c.in-Err.error (refl, refl)
-    (0, refl) inside ran (λ is. absurd (not_day is))
+    text_refused g.S.Store c.args.tx.now.conn.now c.execute.new.self.conn.now put_day _ c.in-Err.error
+    (0, refl) inside ran
 
 pub returns-in-Ok-clause-ran : goal.returns-in-Ok-clause-ran
 returns-in-Ok-clause-ran g c clean inside =

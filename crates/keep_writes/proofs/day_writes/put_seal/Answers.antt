@@ -7,7 +7,7 @@ use Rattle.keep_tables.specs.Texts.{put_seal}
 use Rattle.keep_tables.proofs.DayWriteLaws.{seal_puts}
 use Rattle.keep_tables.proofs.PutLaws.{whole_by}
 use Rattle.keep_writes.proofs.RunLaws.{all_once}
-use Rattle.keep_writes.proofs.CauseLaws.{text_refused, not_seal}
+use Rattle.keep_writes.proofs.CauseLaws.{text_refused}
 use Rattle.keep_writes.proofs.day_writes.put_seal.Goals as goal
 
 pub returns-in-Ok-clause-puts : goal.returns-in-Ok-clause-puts
@@ -24,8 +24,8 @@ returns-in-Ok-clause-puts g c clean inside version contents holds r day seal lat
 pub returns-in-Err-clause-refused : goal.returns-in-Err-clause-refused
 returns-in-Err-clause-refused g c clean inside =
     let ran = rw (c.params-to_sql.ensures, c.params-to_sql-2.ensures, c.bytes_of-bytes.ensures.same) at (c.in-Err.ensures.runs clean inside) in
-    text_refused g.S.Store c.args.tx.now.conn.now c.execute.new.self.conn.now put_seal _ c.in-Err.error (refl, refl)
-    (1, refl) inside ran (λ is. absurd (not_seal is))
+    text_refused g.S.Store c.args.tx.now.conn.now c.execute.new.self.conn.now put_seal _ c.in-Err.error
+    (1, refl) inside ran
 
 pub returns-in-Ok-clause-ran : goal.returns-in-Ok-clause-ran
 returns-in-Ok-clause-ran g c clean inside =

@@ -4,10 +4,9 @@ use Rattle.sqlite.specs.State.{HasCleanDisk}
 use Rattle.keep_tables.specs.Stands.{Holds, FitsDay, contents_of, with_record, with_seal}
 use Rattle.keep_tables.proofs.PutLaws.{days_before, below_sum, adds_holds, day_stands, ok_both, stays_then, shows_then}
 use Rattle.keep_tables.proofs.PutLaws.{survives_both}
-use Rattle.keep_writes.specs.Writes.{WritesDay, WritesRecord, WritesSeal, WritesAmounts, record_text, seal_text}
-use Rattle.keep_writes.specs.Writes.{amount_text}
-use Rattle.keep_writes.proofs.RunLaws.{ran_of, ran_then, all_then}
-use Rattle.keep_writes.proofs.CauseLaws.{err_handed, errs_inside, kept_inside, inside_after, inside_wider, both_ran}
+use Rattle.keep_writes.specs.Writes.{record_text, seal_text, amount_text}
+use Rattle.keep_writes.proofs.RunLaws.{all_then}
+use Rattle.keep_writes.proofs.CauseLaws.{err_handed, errs_inside, kept_inside, inside_after, inside_first, both_ran}
 use Rattle.keep_writes.proofs.day_writes.write_day.Goals as goal
 
 pub returns-clause-wrote : goal.returns-clause-wrote
@@ -64,9 +63,9 @@ returns-clause-inside g c clean inside =
 pub returns-in_err-put_record-clause-refused : goal.returns-in_err-put_record-clause-refused
 returns-in_err-put_record-clause-refused g c clean inside =
     err_handed c.from_residual.result c.in_err-put_record.field-0.0 _ c.from_residual.ensures.1
-    (inside_wider g.S.Store (WritesRecord c.args.kept.now) (WritesDay c.args.kept.now c.args.rows.now)
-    (λ sql params is. inl is) c.args.tx.now.conn.now c.put_record.new.tx.conn.now _
-    (c.in_err-put_record.ensures.refused clean inside))
+    (inside_first g.S.Store (record_text c.args.kept.now ∷ [])
+    (seal_text c.args.kept.now.day c.args.kept.now.tariffs ∷ map amount_text c.args.rows.now) c.args.tx.now.conn.now
+    c.put_record.new.tx.conn.now _ (c.in_err-put_record.ensures.refused clean inside))
 
 pub returns-in_err-put_seal-clause-refused : goal.returns-in_err-put_seal-clause-refused
 returns-in_err-put_seal-clause-refused g c clean inside =
@@ -74,15 +73,13 @@ returns-in_err-put_seal-clause-refused g c clean inside =
     let first = state g.S.Store c.put_record.new.tx.conn.now in
     let early : HasCleanDisk first = omega (arith, c.put_seal.ensures.survives.clean) in
     let one = c.in_ok-put_record.ensures.inside early inside in
+    let seal = seal_text c.args.kept.now.day c.args.kept.now.tariffs in
     err_handed c.from_residual-in_err-put_seal.result c.in_err-put_seal.field-0.0 _
     c.from_residual-in_err-put_seal.ensures.1
-    (inside_after g.S.Store c.args.tx.now.conn.now c.put_record.new.tx.conn.now c.put_seal.new.tx.conn.now _
-    (ran_of g.S.Store (WritesDay c.args.kept.now c.args.rows.now) (record_text c.args.kept.now ∷ [])
-    (inl (refl, refl), tt) c.args.tx.now.conn.now c.put_record.new.tx.conn.now
-    (c.in_ok-put_record.ensures.ran early inside))
-    (kept_inside old first one) c.put_record.ensures.survives
-    (inside_wider g.S.Store (WritesSeal c.args.kept.now.day c.args.kept.now.tariffs)
-    (WritesDay c.args.kept.now c.args.rows.now) (λ sql params is. inr (inl is)) c.put_record.new.tx.conn.now
+    (inside_after g.S.Store (record_text c.args.kept.now ∷ []) (seal ∷ map amount_text c.args.rows.now)
+    c.args.tx.now.conn.now c.put_record.new.tx.conn.now c.put_seal.new.tx.conn.now _
+    (c.in_ok-put_record.ensures.ran early inside) (kept_inside old first one) c.put_record.ensures.survives
+    (inside_first g.S.Store (seal ∷ []) (map amount_text c.args.rows.now) c.put_record.new.tx.conn.now
     c.put_seal.new.tx.conn.now _ (c.in_err-put_seal.ensures.refused clean (one.mode ∙ inside))))
 
 pub returns-clause-refused : goal.returns-clause-refused
@@ -94,17 +91,14 @@ returns-clause-refused g c clean inside =
     let early : HasCleanDisk first = omega (arith, late, c.put_seal.ensures.survives.clean) in
     let one = c.in_ok-put_record.ensures.inside early inside in
     let two = c.in_ok-put_seal.ensures.inside late (one.mode ∙ inside) in
-    errs_inside g.S.Store (WritesAmounts c.args.rows.now) (WritesDay c.args.kept.now c.args.rows.now)
-    (λ sql params is. inr (inr is)) c.args.tx.now.conn.now c.put_seal.new.tx.conn.now c.put_amounts.new.tx.conn.now
+    errs_inside g.S.Store
+    (record_text c.args.kept.now ∷ seal_text c.args.kept.now.day c.args.kept.now.tariffs ∷ [])
+    (map amount_text c.args.rows.now) c.args.tx.now.conn.now c.put_seal.new.tx.conn.now c.put_amounts.new.tx.conn.now
     c.put_amounts.result
-    (ran_then g.S.Store (WritesDay c.args.kept.now c.args.rows.now) c.args.tx.now.conn.now c.put_record.new.tx.conn.now
-    c.put_seal.new.tx.conn.now
-    (ran_of g.S.Store (WritesDay c.args.kept.now c.args.rows.now) (record_text c.args.kept.now ∷ [])
-    (inl (refl, refl), tt) c.args.tx.now.conn.now c.put_record.new.tx.conn.now
-    (c.in_ok-put_record.ensures.ran early inside))
-    (ran_of g.S.Store (WritesDay c.args.kept.now c.args.rows.now)
-    (seal_text c.args.kept.now.day c.args.kept.now.tariffs ∷ []) (inr (inl (refl, refl)), tt)
-    c.put_record.new.tx.conn.now c.put_seal.new.tx.conn.now (c.in_ok-put_seal.ensures.ran late (one.mode ∙ inside))))
+    (all_then g.S.Store (record_text c.args.kept.now ∷ [])
+    (seal_text c.args.kept.now.day c.args.kept.now.tariffs ∷ []) c.args.tx.now.conn.now c.put_record.new.tx.conn.now
+    c.put_seal.new.tx.conn.now (c.in_ok-put_record.ensures.ran early inside)
+    (c.in_ok-put_seal.ensures.ran late (one.mode ∙ inside)))
     (shows_then old first second one two)
     (survives_both old first second c.put_record.ensures.survives c.put_seal.ensures.survives)
     (c.put_amounts.ensures.refused clean (two.mode ∙ (one.mode ∙ inside)))

@@ -99,13 +99,3 @@ returns-clause-texts g c clean inside =
           (c.in_ok-seal_tables.ensures.texts late (one.mode ∙ inside));
       ran = ran;
     })
-
-pub returns-clause-ran : goal.returns-clause-ran
-returns-clause-ran g c clean inside =
-    let first = state g.S.Store c.make_rest.new.tx.conn.now in
-    let second = state g.S.Store c.seal_tables.new.tx.conn.now in
-    let late : HasCleanDisk second = omega (arith, c.put_version.ensures.survives.clean) in
-    let early : HasCleanDisk first = omega (arith, late, c.seal_tables.ensures.survives.clean) in
-    let one = c.in_ok-make_rest.ensures.inside early inside in
-    let two = c.in_ok-seal_tables.ensures.inside late one.is_open (one.mode ∙ inside) in
-    c.put_version.ensures.ran clean (two.mode ∙ (one.mode ∙ inside))

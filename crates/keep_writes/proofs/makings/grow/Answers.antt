@@ -1,13 +1,13 @@
 use Rattle.std.proofs.Common.{◌≡◌, inr, refl, sym, subst, ◌∙◌, rules, arith}
 use Rattle.sqlite.specs.Held.{state}
 use Rattle.sqlite.specs.State.{HasCleanDisk, Survives}
-use Rattle.keep_writes.specs.Growth.{CommitsGrown, CommitsVersion, IsAtRest}
+use Rattle.keep_writes.specs.Growth.{CommitsGrown, IsAtRest}
 use Rattle.keep_writes.proofs.GrowLaws.{on_ok}
-use Rattle.keep_writes.proofs.LeaveLaws.{grown_survives}
+use Rattle.keep_writes.proofs.LeaveLaws.{grown_survives, grown_leaves}
 use Rattle.sqlite.specs.Steps.{FailsToCommit}
-use Rattle.keep_writes.specs.Unmade.{IsUnmade}
+use Rattle.keep_writes.specs.Unmade.{CommitsTables, IsUnmade, LeavesGrown}
 use Rattle.keep_writes.proofs.CauseLaws.{err_then, err_handed}
-use Rattle.keep_writes.proofs.UnmadeLaws.{commit_unmade, unmade_begun}
+use Rattle.keep_writes.proofs.UnmadeLaws.{commit_unmade, tables_begun, unmade_begun}
 use Rattle.keep_writes.proofs.makings.grow.Goals as goal
 
 pub returns-clause-crash : goal.returns-clause-crash
@@ -54,18 +54,18 @@ returns-clause-why g c clean settled says lists =
     ((rw begun at (c.in_ok-write_tables.ensures.inside early)) refl)
     (rw begun at c.write_tables.ensures.survives) h)))
 
-pub returns-clause-second : goal.returns-clause-second
-returns-clause-second g c clean =
+pub returns-clause-wrote : goal.returns-clause-wrote
+returns-clause-wrote g c clean settled says lists =
     let last = c.write_tables.new.tx.conn.now in
     let end = c.commit.new.self.0 in
     let same : end ≡ c.conn-2-1.given.0 = search rules in
     let late : HasCleanDisk (state g.S.Store end) = subst (λ h. HasCleanDisk (state g.S.Store h)) (sym same) clean in
     let begun = c.transaction-tx.ensures.begun in
     let early : HasCleanDisk (state g.S.Store last) = omega (arith, late, c.commit.ensures.survives.clean) in
-    let puts = (rw begun at (c.in_ok-write_tables.ensures.ran early)) refl in
     on_ok c.commit.result _ _ (c.commit.ensures.ok late)
-    (λ h. subst (λ k. CommitsVersion g.S.Store k) same
-    (record { last = last; puts = puts; committed = h.1.committed_is }))
+    (λ h. subst (λ k. CommitsTables g.S.Store c.args.conn.now k) same
+    (tables_begun g.S.Store c.args.is_old c.args.conn.now last end settled says lists
+    ((rw begun at (c.in_ok-write_tables.ensures.texts early)) refl) h.1.committed_is))
 
 pub returns-clause-rest : goal.returns-clause-rest
 returns-clause-rest g c clean =
@@ -75,3 +75,14 @@ returns-clause-rest g c clean =
     on_ok c.commit.result _ _ (c.commit.ensures.ok late)
     (λ h. subst (λ k. IsAtRest (state g.S.Store k)) same
     (record { is_open = h.1.is_open; seen = h.1.now_is ∙ sym h.1.committed_is; calm = h.1.mode }))
+
+pub returns-clause-leaves : goal.returns-clause-leaves
+returns-clause-leaves g c =
+    let old = c.args.conn.now in
+    let last = c.write_tables.new.tx.conn.now in
+    let end = c.commit.new.self.0 in
+    let begun = c.transaction-tx.ensures.begun in
+    let same : end ≡ c.conn-2-1.given.0 = search rules in
+    subst (λ k. Survives (state g.S.Store old) (state g.S.Store k) (LeavesGrown g.S.Store c.args.is_old old)) same
+    (grown_leaves g.S.Store c.args.is_old old last end (rw begun at c.write_tables.ensures.survives)
+    c.commit.ensures.survives (λ late. (rw begun at (c.in_ok-write_tables.ensures.texts late)) refl))

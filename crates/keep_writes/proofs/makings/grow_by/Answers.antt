@@ -8,9 +8,9 @@ use Rattle.keep_tables.specs.Texts.{list_days}
 use Rattle.keep_writes.specs.Growth.{Stood, IsUnderstood, SaysIf}
 use Rattle.keep_writes.specs.Objects.{Lists, texts_of}
 use Rattle.keep_writes.proofs.GrowLaws.{on_ok, on_err, stood_by}
-use Rattle.keep_writes.proofs.LeaveLaws.{here_survives}
+use Rattle.keep_writes.proofs.LeaveLaws.{here_survives, here_leaves}
 use Rattle.keep_writes.proofs.CauseLaws.{err_handed}
-use Rattle.keep_writes.proofs.UnmadeLaws.{settled_on, unmade_now, unmade_then}
+use Rattle.keep_writes.proofs.UnmadeLaws.{settled_on, tables_after, unmade_now, unmade_then}
 use Rattle.keep_writes.proofs.makings.grow_by.Goals as goal
 
 pub returns-clause-grown : goal.returns-clause-grown
@@ -79,3 +79,20 @@ returns-clause-ours g c clean =
     let is_old = c.in_ok-is_old.is_old in
     on_ok c.grow_listed.result _ _ (c.grow_listed.ensures.listed clean)
     (λ h. (is_old, subst (λ (d : Database). Lists d (texts_of is_old)) (c.in_ok-is_old.ensures.same early).0.now_is h))
+
+pub returns-clause-wrote : goal.returns-clause-wrote
+returns-clause-wrote g c clean settled =
+    let early : HasCleanDisk (state g.S.Store c.is_there.new.conn) = omega (arith, c.grow_listed.ensures.crash.clean) in
+    let same = (c.in_ok-is_old.ensures.same early).0 in
+    on_ok c.grow_listed.result _ _
+    (c.grow_listed.ensures.wrote clean
+    (settled_on (state g.S.Store c.args.conn.now) (state g.S.Store c.is_there.new.conn) settled same)
+    (subst (λ (d : Database). SaysIf c.in_ok-is_old.is_old (IsUnderstood (understood d.schema list_days)))
+    (sym same.now_is) (c.in_ok-is_old.ensures.says early)))
+    (tables_after g.S.Store c.args.conn.now c.is_there.new.conn c.grow_listed.new.conn
+    (c.is_there.ensures.kept early))
+
+pub returns-clause-leaves : goal.returns-clause-leaves
+returns-clause-leaves g c =
+    here_leaves g.S.Store c.in_ok-is_old.is_old c.args.conn.now c.is_there.new.conn c.grow_listed.new.conn
+    c.in_ok-is_old.ensures.same c.in_ok-is_old.ensures.says c.is_there.ensures.survives c.grow_listed.ensures.leaves

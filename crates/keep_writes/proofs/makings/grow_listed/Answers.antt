@@ -8,9 +8,9 @@ use Rattle.keep_tables.specs.Texts.{list_days}
 use Rattle.keep_writes.specs.Growth.{Stood, IsUnderstood, SaysIf}
 use Rattle.keep_writes.specs.Objects.{Lists, texts_of}
 use Rattle.keep_writes.proofs.GrowLaws.{on_ok, on_err}
-use Rattle.keep_writes.proofs.LeaveLaws.{listed_survives}
+use Rattle.keep_writes.proofs.LeaveLaws.{listed_survives, listed_leaves}
 use Rattle.keep_writes.proofs.CauseLaws.{err_handed}
-use Rattle.keep_writes.proofs.UnmadeLaws.{settled_on, unmade_now, unmade_then}
+use Rattle.keep_writes.proofs.UnmadeLaws.{settled_on, tables_after, unmade_now, unmade_then}
 use Rattle.keep_writes.proofs.makings.grow_listed.Goals as goal
 
 pub returns-clause-grown : goal.returns-clause-grown
@@ -88,7 +88,30 @@ returns-clause-why g c clean settled says =
 pub returns-clause-listed : goal.returns-clause-listed
 returns-clause-listed g c clean =
     let early : HasCleanDisk (state g.S.Store c.list_texts.new.conn) = omega (arith, c.grow.ensures.crash.clean) in
-    on_ok c.grow.result _ _ (c.grow.ensures.second clean)
+    on_ok c.grow.result _ _ (c.grow.ensures.rest clean)
     (λ _. subst (Lists (state g.S.Store c.args.conn.now).now)
     (sym c.deref.ensures.value ∙ c.are_texts.ensures.0 c.if-not-are_texts.false)
     (c.in_ok-texts.ensures.lists early))
+
+pub returns-clause-wrote : goal.returns-clause-wrote
+returns-clause-wrote g c clean settled says =
+    let early : HasCleanDisk (state g.S.Store c.list_texts.new.conn) = omega (arith, c.grow.ensures.crash.clean) in
+    let same = (c.in_ok-texts.ensures.same early).0 in
+    on_ok c.grow.result _ _
+    (c.grow.ensures.wrote clean
+    (settled_on (state g.S.Store c.args.conn.now) (state g.S.Store c.list_texts.new.conn) settled same)
+    (subst (λ (d : Database). SaysIf c.args.is_old (IsUnderstood (understood d.schema list_days)))
+    (sym same.now_is) says)
+    (subst (λ (d : Database). Lists d (texts_of c.args.is_old)) (sym same.now_is)
+    (subst (Lists (state g.S.Store c.args.conn.now).now)
+    (sym c.deref.ensures.value ∙ c.are_texts.ensures.0 c.if-not-are_texts.false)
+    (c.in_ok-texts.ensures.lists early))))
+    (tables_after g.S.Store c.args.conn.now c.list_texts.new.conn c.grow.new.conn (c.list_texts.ensures.kept early))
+
+pub returns-clause-leaves : goal.returns-clause-leaves
+returns-clause-leaves g c =
+    listed_leaves g.S.Store c.args.is_old c.args.conn.now c.list_texts.new.conn c.grow.new.conn
+    c.in_ok-texts.ensures.same
+    (λ early. subst (Lists (state g.S.Store c.args.conn.now).now)
+    (sym c.deref.ensures.value ∙ c.are_texts.ensures.0 c.if-not-are_texts.false)
+    (c.in_ok-texts.ensures.lists early)) c.list_texts.ensures.survives c.grow.ensures.leaves

@@ -7,9 +7,9 @@ use Rattle.keep_tables.proofs.StepLaws.{kept_then}
 use Rattle.keep_writes.specs.Growth.{HasVersion, LacksVersion, IsOurs}
 use Rattle.keep_writes.specs.Objects.{MayBeMade}
 use Rattle.keep_writes.proofs.GrowLaws.{on_ok, on_both, on_err, err_stands}
-use Rattle.keep_writes.proofs.LeaveLaws.{same_survives, kept_there}
+use Rattle.keep_writes.proofs.LeaveLaws.{same_survives, tables_leave, kept_there}
 use Rattle.keep_writes.proofs.CauseLaws.{err_handed}
-use Rattle.keep_writes.proofs.UnmadeLaws.{unmade_now, unmade_settled}
+use Rattle.keep_writes.proofs.UnmadeLaws.{tables_after, unmade_now, unmade_settled}
 use Rattle.keep_writes.proofs.makings.make.Goals as goal
 
 pub returns-in_err-settle-clause-stands : goal.returns-in_err-settle-clause-stands
@@ -82,8 +82,8 @@ returns-clause-ours g c clean =
     let same = c.in_ok-settle.ensures.settled early before ∙ (c.settle.ensures.kept early).committed before in
     on_ok c.make_here.result _ _ (c.make_here.ensures.ours clean) (subst IsOurs same))
 
-pub returns-clause-second : goal.returns-clause-second
-returns-clause-second g c clean lacks =
+pub returns-clause-wrote : goal.returns-clause-wrote
+returns-clause-wrote g c clean lacks =
     let mid = state g.S.Store c.settle.new.conn in
     let early : HasCleanDisk mid = omega (arith, c.make_here.ensures.crash.clean) in
     let rest = c.make_here.ensures.rest clean (c.in_ok-settle.ensures.settled early)
@@ -92,7 +92,9 @@ returns-clause-second g c clean lacks =
     (λ h.
     let before = c.make_here.ensures.open clean h.is_open in
     let same = c.in_ok-settle.ensures.settled early before ∙ (c.settle.ensures.kept early).committed before in
-    c.make_here.ensures.second clean (subst LacksVersion (sym same) lacks))
+    on_ok c.make_here.result _ _
+    (c.make_here.ensures.wrote clean (c.in_ok-settle.ensures.settled early) (subst LacksVersion (sym same) lacks))
+    (tables_after g.S.Store c.args.conn.now c.settle.new.conn c.make_here.new.conn (c.settle.ensures.kept early)))
 
 pub returns-clause-refused : goal.returns-clause-refused
 returns-clause-refused g c clean =
@@ -101,3 +103,9 @@ returns-clause-refused g c clean =
     on_err c.make_here.result _ _ (c.make_here.ensures.refused clean)
     (kept_then (state g.S.Store c.args.conn.now) mid (state g.S.Store c.make_here.new.conn)
     (c.settle.ensures.kept early))
+
+pub returns-clause-leaves : goal.returns-clause-leaves
+returns-clause-leaves g c =
+    tables_leave g.S.Store c.args.conn.now c.settle.new.conn c.make_here.new.conn
+    (λ early here. c.in_ok-settle.ensures.settled early here) c.settle.ensures.kept c.settle.ensures.survives
+    c.make_here.ensures.leaves

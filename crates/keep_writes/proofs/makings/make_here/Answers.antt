@@ -9,9 +9,9 @@ use Rattle.keep_writes.specs.Growth.{IsUnderstood, SaysIf, LacksVersion}
 use Rattle.keep_tables.proofs.StepLaws.{kept_then}
 use Rattle.keep_writes.specs.Objects.{MayBeMade}
 use Rattle.keep_writes.proofs.GrowLaws.{on_ok, six_there}
-use Rattle.keep_writes.proofs.LeaveLaws.{open_survives}
+use Rattle.keep_writes.proofs.LeaveLaws.{open_survives, open_leaves}
 use Rattle.keep_writes.proofs.CauseLaws.{err_handed}
-use Rattle.keep_writes.proofs.UnmadeLaws.{settled_on, unmade_now, unmade_then}
+use Rattle.keep_writes.proofs.UnmadeLaws.{settled_on, tables_after, unmade_now, unmade_then}
 use Rattle.keep_writes.proofs.makings.make_here.Goals as goal
 
 pub returns-then-branch-clause-made : goal.returns-then-branch-clause-made
@@ -72,8 +72,8 @@ returns-clause-there g c clean has =
     (c.in_ok-is_there.ensures.says early) in
     absurd (lacks has)
 
-pub returns-then-branch-clause-second : goal.returns-then-branch-clause-second
-returns-then-branch-clause-second g c clean lacks =
+pub returns-then-branch-clause-wrote : goal.returns-then-branch-clause-wrote
+returns-then-branch-clause-wrote g c clean settled lacks =
     let old = state g.S.Store c.args.conn.now in
     let said = subst (λ (b : Bool). SaysIf b (IsUnderstood (understood old.now.schema find_version))) c.if-branch.true
     (c.in_ok-is_there.ensures.says clean) in
@@ -100,3 +100,19 @@ returns-then-branch-clause-rest g c clean settled calm =
       seen = settled_on (state g.S.Store c.args.conn.now) (state g.S.Store c.is_there.new.conn) settled same same.is_open;
       calm = same.mode ∙ calm;
     }
+
+pub returns-clause-wrote : goal.returns-clause-wrote
+returns-clause-wrote g c clean settled lacks =
+    let early : HasCleanDisk (state g.S.Store c.is_there.new.conn) = omega (arith, c.grow_by.ensures.crash.clean) in
+    let same = (c.in_ok-is_there.ensures.same early).0 in
+    on_ok c.grow_by.result _ _
+    (c.grow_by.ensures.wrote clean
+    (settled_on (state g.S.Store c.args.conn.now) (state g.S.Store c.is_there.new.conn) settled same))
+    (tables_after g.S.Store c.args.conn.now c.is_there.new.conn c.grow_by.new.conn (c.is_there.ensures.kept early))
+
+pub returns-clause-leaves : goal.returns-clause-leaves
+returns-clause-leaves g c =
+    let old = state g.S.Store c.args.conn.now in
+    open_leaves g.S.Store c.args.conn.now c.is_there.new.conn c.grow_by.new.conn c.in_ok-is_there.ensures.same
+    (λ early. subst (λ (b : Bool). SaysIf b (IsUnderstood (understood old.now.schema find_version))) c.if-branch.false
+    (c.in_ok-is_there.ensures.says early)) c.is_there.ensures.survives c.grow_by.ensures.leaves

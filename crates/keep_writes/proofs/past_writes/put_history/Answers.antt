@@ -4,7 +4,7 @@ use Rattle.keep_tables.specs.Texts.{put_past}
 use Rattle.keep_tables.proofs.DayWriteLaws.{past_puts}
 use Rattle.keep_tables.proofs.PutLaws.{whole_by}
 use Rattle.keep_writes.proofs.RunLaws.{all_once}
-use Rattle.keep_writes.proofs.CauseLaws.{text_refused, not_past}
+use Rattle.keep_writes.proofs.CauseLaws.{text_refused}
 use Rattle.keep_writes.proofs.past_writes.put_history.Goals as goal
 
 pub returns-in-Ok-clause-puts : goal.returns-in-Ok-clause-puts
@@ -43,8 +43,8 @@ returns-in-Err-clause-refused g c clean inside =
       c.column-bytes.ensures,
       c.column-count.ensures,
     ) at (c.in-Err.ensures.runs clean inside) in
-    text_refused g.S.Store c.args.tx.now.conn.now c.execute.new.self.conn.now put_past _ c.in-Err.error (refl, refl)
-    (3, refl) inside ran (λ is. absurd (not_past is))
+    text_refused g.S.Store c.args.tx.now.conn.now c.execute.new.self.conn.now put_past _ c.in-Err.error
+    (3, refl) inside ran
 
 pub returns-in-Ok-clause-ran : goal.returns-in-Ok-clause-ran
 returns-in-Ok-clause-ran g c clean inside =

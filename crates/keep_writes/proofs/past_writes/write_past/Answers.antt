@@ -3,9 +3,8 @@ use Rattle.sqlite.specs.Held.{state}
 use Rattle.sqlite.specs.State.{HasCleanDisk}
 use Rattle.keep_tables.specs.Stands.{Holds, contents_of, with_history}
 use Rattle.keep_tables.proofs.PutLaws.{adds_holds, past_stands, ok_both, stays_then, survives_both}
-use Rattle.keep_writes.specs.Writes.{WritesPast, WritesHistory, WritesAmounts, history_text, amount_text}
-use Rattle.keep_writes.proofs.RunLaws.{ran_of}
-use Rattle.keep_writes.proofs.CauseLaws.{err_handed, errs_inside, inside_wider, both_ran}
+use Rattle.keep_writes.specs.Writes.{history_text, amount_text}
+use Rattle.keep_writes.proofs.CauseLaws.{err_handed, errs_inside, inside_first, both_ran}
 use Rattle.keep_writes.proofs.past_writes.write_past.Goals as goal
 
 pub returns-clause-wrote : goal.returns-clause-wrote
@@ -39,22 +38,18 @@ returns-clause-inside g c clean inside =
 pub returns-in_err-put_history-clause-refused : goal.returns-in_err-put_history-clause-refused
 returns-in_err-put_history-clause-refused g c clean inside =
     err_handed c.from_residual.result c.in_err-put_history.field-0.0 _ c.from_residual.ensures.1
-    (inside_wider g.S.Store (WritesHistory c.args.kept.now) (WritesPast c.args.kept.now c.args.rows.now)
-    (λ sql params is. inl is) c.args.tx.now.conn.now c.put_history.new.tx.conn.now _
-    (c.in_err-put_history.ensures.refused clean inside))
+    (inside_first g.S.Store (history_text c.args.kept.now ∷ []) (map amount_text c.args.rows.now)
+    c.args.tx.now.conn.now c.put_history.new.tx.conn.now _ (c.in_err-put_history.ensures.refused clean inside))
 
 pub returns-clause-refused : goal.returns-clause-refused
 returns-clause-refused g c clean inside =
     let first = state g.S.Store c.put_history.new.tx.conn.now in
     let early : HasCleanDisk first = omega (arith, c.put_amounts.ensures.survives.clean) in
     let one = c.in_ok-put_history.ensures.inside early inside in
-    errs_inside g.S.Store (WritesAmounts c.args.rows.now) (WritesPast c.args.kept.now c.args.rows.now)
-    (λ sql params is. inr is) c.args.tx.now.conn.now c.put_history.new.tx.conn.now c.put_amounts.new.tx.conn.now
-    c.put_amounts.result
-    (ran_of g.S.Store (WritesPast c.args.kept.now c.args.rows.now) (history_text c.args.kept.now ∷ [])
-    (inl (refl, refl), tt) c.args.tx.now.conn.now c.put_history.new.tx.conn.now
-    (c.in_ok-put_history.ensures.ran early inside))
-    one c.put_history.ensures.survives (c.put_amounts.ensures.refused clean (one.mode ∙ inside))
+    errs_inside g.S.Store (history_text c.args.kept.now ∷ []) (map amount_text c.args.rows.now)
+    c.args.tx.now.conn.now c.put_history.new.tx.conn.now c.put_amounts.new.tx.conn.now c.put_amounts.result
+    (c.in_ok-put_history.ensures.ran early inside) one c.put_history.ensures.survives
+    (c.put_amounts.ensures.refused clean (one.mode ∙ inside))
 
 pub returns-clause-ran : goal.returns-clause-ran
 returns-clause-ran g c clean inside =

@@ -6,15 +6,15 @@ use Rattle.keep_tables.proofs.CrashLaws.{put_survives}
 use Rattle.keep_office.specs.Kept.{HasNoDays, with_past}
 use Rattle.keep_tables.specs.Stands.{HasOffice}
 use Rattle.keep_writes.specs.Causes.{IsTold}
-use Rattle.keep_writes.specs.Writes.{WritesPast, past_texts}
-use Rattle.keep_writes.proofs.RunLaws.{commits_after}
+use Rattle.keep_writes.specs.Writes.{past_texts}
+use Rattle.keep_writes.proofs.RunLaws.{commits_after, leaves_after}
 use Rattle.keep_writes.proofs.CauseLaws.{cause_of, refused_after, refused_idle}
 use Rattle.keep_tables.proofs.StepLaws.{kept_then}
 use Rattle.keep_writes.proofs.puts.put_past.Goals as goal
 
 pub returns-in-Err-clause-why : goal.returns-in-Err-clause-why
 returns-in-Err-clause-why g c clean =
-    let writes = WritesPast c.args.kept.now c.args.rows.now in
+    let writes = past_texts c.args.kept.now c.args.rows.now in
     cause_of g.S.Store writes c.args.conn.now c.settle.new.conn c.refusal_told.result c.in-Err.error
     c.refusal_told.ensures.fault
     (refused_idle g.S.Store writes c.args.conn.now c.settle.new.conn c.in-Err.error (c.in-Err.ensures.refused clean))
@@ -57,7 +57,7 @@ returns-in-Err-keep_past-clause-why g c clean =
     let calm = c.in_default.ensures.calm early in
     elim (c.in-Err-keep_past.ensures.because clean (c.in_default.ensures.settled early)) [
       | inl inside ↦ absurd (let e = sym calm ∙ inside in cc)
-      | inr refused ↦ cause_of g.S.Store (WritesPast c.args.kept.now c.args.rows.now)
+      | inr refused ↦ cause_of g.S.Store (past_texts c.args.kept.now c.args.rows.now)
           c.args.conn.now c.keep_past.new.conn c.refusal_told-in-Err-keep_past.result
           c.in-Err-keep_past.error c.refusal_told-in-Err-keep_past.ensures.fault
           (refused_after g.S.Store c.args.conn.now c.settle.new.conn c.keep_past.new.conn _ (c.settle.ensures.kept early)
@@ -66,7 +66,7 @@ returns-in-Err-keep_past-clause-why g c clean =
 
 pub returns-in-Err-clause-told : goal.returns-in-Err-clause-told
 returns-in-Err-clause-told g c clean =
-    let writes = WritesPast c.args.kept.now c.args.rows.now in
+    let writes = past_texts c.args.kept.now c.args.rows.now in
     subst (IsTold g.S.Store writes c.args.conn.now c.settle.new.conn) (sym c.refusal_told.ensures.says)
     (refused_idle g.S.Store writes c.args.conn.now c.settle.new.conn c.in-Err.error (c.in-Err.ensures.refused clean))
 
@@ -78,7 +78,7 @@ returns-in-Err-keep_past-clause-told g c clean =
     elim (c.in-Err-keep_past.ensures.because clean (c.in_default.ensures.settled early)) [
       | inl inside ↦ absurd (let e = sym calm ∙ inside in cc)
       | inr refused ↦ subst
-          (IsTold g.S.Store (WritesPast c.args.kept.now c.args.rows.now) c.args.conn.now c.keep_past.new.conn)
+          (IsTold g.S.Store (past_texts c.args.kept.now c.args.rows.now) c.args.conn.now c.keep_past.new.conn)
           (sym c.refusal_told-in-Err-keep_past.ensures.says)
           (refused_after g.S.Store c.args.conn.now c.settle.new.conn c.keep_past.new.conn _ (c.settle.ensures.kept early)
           c.settle.ensures.survives refused)
@@ -90,3 +90,15 @@ returns-in-Ok-clause-wrote g c clean =
     let early : HasCleanDisk mid = omega (arith, c.keep_past.ensures.crash.clean) in
     commits_after g.S.Store (past_texts c.args.kept.now c.args.rows.now) c.args.conn.now c.settle.new.conn c.keep_past.new.conn (c.settle.ensures.kept early)
     (c.in-Ok.ensures.wrote clean (c.in_default.ensures.settled early))
+
+pub returns-in-Ok-clause-leaves : goal.returns-in-Ok-clause-leaves
+returns-in-Ok-clause-leaves g c =
+    leaves_after g.S.Store (past_texts c.args.kept.now c.args.rows.now) c.args.conn.now c.settle.new.conn c.keep_past.new.conn
+    (λ clean here. c.in_default.ensures.settled clean here) c.settle.ensures.kept c.settle.ensures.survives
+    c.keep_past.ensures.leaves
+
+pub returns-in-Err-keep_past-clause-leaves : goal.returns-in-Err-keep_past-clause-leaves
+returns-in-Err-keep_past-clause-leaves g c =
+    leaves_after g.S.Store (past_texts c.args.kept.now c.args.rows.now) c.args.conn.now c.settle.new.conn c.keep_past.new.conn
+    (λ clean here. c.in_default.ensures.settled clean here) c.settle.ensures.kept c.settle.ensures.survives
+    c.keep_past.ensures.leaves

@@ -7,15 +7,15 @@ use Rattle.keep_tables.proofs.CrashLaws.{put_survives}
 use Rattle.keep_office.specs.Kept.{with_tariff_of}
 use Rattle.keep_tables.specs.Stands.{HasOffice}
 use Rattle.keep_writes.specs.Causes.{IsTold}
-use Rattle.keep_writes.specs.Writes.{WritesTariff, tariff_texts}
-use Rattle.keep_writes.proofs.RunLaws.{commits_after}
+use Rattle.keep_writes.specs.Writes.{tariff_texts}
+use Rattle.keep_writes.proofs.RunLaws.{commits_after, leaves_after}
 use Rattle.keep_writes.proofs.CauseLaws.{cause_of, refused_after, refused_idle}
 use Rattle.keep_tables.proofs.StepLaws.{kept_then}
 use Rattle.keep_writes.proofs.puts.put_tariff.Goals as goal
 
 pub returns-in-Err-clause-why : goal.returns-in-Err-clause-why
 returns-in-Err-clause-why g c clean =
-    let writes = WritesTariff c.args.xway c.args.tariff.now in
+    let writes = tariff_texts c.args.xway c.args.tariff.now in
     cause_of g.S.Store writes c.args.conn.now c.settle.new.conn c.refusal_told.result c.in-Err.error
     c.refusal_told.ensures.fault
     (refused_idle g.S.Store writes c.args.conn.now c.settle.new.conn c.in-Err.error (c.in-Err.ensures.refused clean))
@@ -57,7 +57,7 @@ returns-in-Err-replace-clause-why g c clean =
     let calm = c.in_default.ensures.calm early in
     elim (c.in-Err-replace.ensures.because clean (c.in_default.ensures.settled early)) [
       | inl inside ↦ absurd (let e = sym calm ∙ inside in cc)
-      | inr refused ↦ cause_of g.S.Store (WritesTariff c.args.xway c.args.tariff.now)
+      | inr refused ↦ cause_of g.S.Store (tariff_texts c.args.xway c.args.tariff.now)
           c.args.conn.now c.replace.new.conn c.refusal_told-in-Err-replace.result
           c.in-Err-replace.error c.refusal_told-in-Err-replace.ensures.fault
           (refused_after g.S.Store c.args.conn.now c.settle.new.conn c.replace.new.conn _ (c.settle.ensures.kept early)
@@ -66,7 +66,7 @@ returns-in-Err-replace-clause-why g c clean =
 
 pub returns-in-Err-clause-told : goal.returns-in-Err-clause-told
 returns-in-Err-clause-told g c clean =
-    let writes = WritesTariff c.args.xway c.args.tariff.now in
+    let writes = tariff_texts c.args.xway c.args.tariff.now in
     subst (IsTold g.S.Store writes c.args.conn.now c.settle.new.conn) (sym c.refusal_told.ensures.says)
     (refused_idle g.S.Store writes c.args.conn.now c.settle.new.conn c.in-Err.error (c.in-Err.ensures.refused clean))
 
@@ -78,7 +78,7 @@ returns-in-Err-replace-clause-told g c clean =
     elim (c.in-Err-replace.ensures.because clean (c.in_default.ensures.settled early)) [
       | inl inside ↦ absurd (let e = sym calm ∙ inside in cc)
       | inr refused ↦ subst
-          (IsTold g.S.Store (WritesTariff c.args.xway c.args.tariff.now) c.args.conn.now c.replace.new.conn)
+          (IsTold g.S.Store (tariff_texts c.args.xway c.args.tariff.now) c.args.conn.now c.replace.new.conn)
           (sym c.refusal_told-in-Err-replace.ensures.says)
           (refused_after g.S.Store c.args.conn.now c.settle.new.conn c.replace.new.conn _ (c.settle.ensures.kept early)
           c.settle.ensures.survives refused)
@@ -90,3 +90,15 @@ returns-in-Ok-clause-wrote g c clean =
     let early : HasCleanDisk mid = omega (arith, c.replace.ensures.crash.clean) in
     commits_after g.S.Store (tariff_texts c.args.xway c.args.tariff.now) c.args.conn.now c.settle.new.conn c.replace.new.conn (c.settle.ensures.kept early)
     (c.in-Ok.ensures.wrote clean (c.in_default.ensures.settled early))
+
+pub returns-in-Ok-clause-leaves : goal.returns-in-Ok-clause-leaves
+returns-in-Ok-clause-leaves g c =
+    leaves_after g.S.Store (tariff_texts c.args.xway c.args.tariff.now) c.args.conn.now c.settle.new.conn c.replace.new.conn
+    (λ clean here. c.in_default.ensures.settled clean here) c.settle.ensures.kept c.settle.ensures.survives
+    c.replace.ensures.leaves
+
+pub returns-in-Err-replace-clause-leaves : goal.returns-in-Err-replace-clause-leaves
+returns-in-Err-replace-clause-leaves g c =
+    leaves_after g.S.Store (tariff_texts c.args.xway c.args.tariff.now) c.args.conn.now c.settle.new.conn c.replace.new.conn
+    (λ clean here. c.in_default.ensures.settled clean here) c.settle.ensures.kept c.settle.ensures.survives
+    c.replace.ensures.leaves

@@ -6,11 +6,10 @@ use Rattle.keep_tables.specs.Steps.{CommitsNow, FitsAny}
 use Rattle.keep_tables.proofs.CrashLaws.{commit_survives}
 use Rattle.sqlite.specs.Steps.{FailsToCommit}
 use Rattle.sqlite_value.specs.declared.value.Value.TheVariants.{Int}
-use Rattle.keep_tables.specs.Texts.{drop_tariff}
 use Rattle.keep_writes.specs.Causes.{RefusedOf, WritesSome}
-use Rattle.keep_writes.specs.Writes.{WritesTariff, tariff_texts}
-use Rattle.keep_writes.specs.Runs.{CommitsRun}
-use Rattle.keep_writes.proofs.RunLaws.{commits_begun}
+use Rattle.keep_writes.specs.Writes.{tariff_texts}
+use Rattle.keep_writes.specs.Runs.{CommitsRun, LeavesNow}
+use Rattle.keep_writes.proofs.RunLaws.{commits_begun, commit_leaves}
 use Rattle.keep_writes.proofs.CauseLaws.{err_then, err_handed, on_then, commit_refused}
 use Rattle.keep_writes.proofs.CauseLaws.{refused_begun}
 use Rattle.keep_writes.proofs.puts.replace.Goals as goal
@@ -25,7 +24,7 @@ returns-in_err-write-clause-because g c clean settled =
     let early : HasCleanDisk (state g.S.Store last) = omega (arith, late, c.drop-tx.ensures.survives.clean) in
     err_handed c.from_residual.result c.in_err-write.field-0.0 _ c.from_residual.ensures.1
     (inr
-    (subst (λ k. RefusedOf g.S.Store (WritesTariff c.args.xway c.args.tariff.now) c.args.conn.now k c.in_err-write.field-0.0) same
+    (subst (λ k. RefusedOf g.S.Store (tariff_texts c.args.xway c.args.tariff.now) c.args.conn.now k c.in_err-write.field-0.0) same
     (refused_begun g.S.Store c.args.conn.now last end _ settled
     ((rw begun at (c.in_err-write.ensures.refused early)) refl) c.drop-tx.ensures.survives)))
 
@@ -37,12 +36,13 @@ returns-clause-because g c clean settled =
     let same : end ≡ c.conn-2-1.given.0 = search rules in
     let late : HasCleanDisk (state g.S.Store end) = subst (λ h. HasCleanDisk (state g.S.Store h)) (sym same) clean in
     let early : HasCleanDisk (state g.S.Store last) = omega (arith, late, c.commit.ensures.survives.clean) in
-    let some : WritesSome (WritesTariff c.args.xway c.args.tariff.now) =
-    record { sql = drop_tariff; params = Int (pos c.args.xway) ∷ []; written = inl (refl, refl) } in
+    let some : WritesSome (tariff_texts c.args.xway c.args.tariff.now) =
+    record { text = _; rest = _; is = refl } in
     err_then c.commit.result (FailsToCommit (state g.S.Store last) (state g.S.Store end)) _ (c.commit.ensures.err late)
     (λ e h. inr
-    (subst (λ k. RefusedOf g.S.Store (WritesTariff c.args.xway c.args.tariff.now) c.args.conn.now k e) same
-    (commit_refused g.S.Store (WritesTariff c.args.xway c.args.tariff.now) some c.args.conn.now last end e
+    (subst (λ k. RefusedOf g.S.Store (tariff_texts c.args.xway c.args.tariff.now) c.args.conn.now k e) same
+    (commit_refused g.S.Store (tariff_texts c.args.xway c.args.tariff.now) some c.args.conn.now last end e settled
+    ((rw begun at (c.in_ok-write.ensures.ran early)) refl)
     ((rw begun at (c.in_ok-write.ensures.inside early)) refl)
     (rw begun at c.write.ensures.survives) h)))
 
@@ -87,3 +87,15 @@ returns-clause-wrote g c clean settled =
     (λ h. subst (λ k. CommitsRun g.S.Store (tariff_texts c.args.xway c.args.tariff.now) c.args.conn.now k) same
     (commits_begun g.S.Store (tariff_texts c.args.xway c.args.tariff.now) c.args.conn.now last end settled
     ((rw begun at (c.in_ok-write.ensures.ran early)) refl) h.1.committed_is))
+
+pub returns-clause-leaves : goal.returns-clause-leaves
+returns-clause-leaves g c =
+    let last = c.write.new.tx.conn.now in
+    let end = c.commit.new.self.0 in
+    let begun = c.transaction-tx.ensures.begun in
+    let same : end ≡ c.conn-2-1.given.0 = search rules in
+    subst (λ k. Survives (state g.S.Store c.args.conn.now) (state g.S.Store k)
+    (LeavesNow g.S.Store (tariff_texts c.args.xway c.args.tariff.now) c.args.conn.now)) same
+    (commit_leaves g.S.Store (tariff_texts c.args.xway c.args.tariff.now) c.args.conn.now last end
+    (rw begun at c.write.ensures.survives) c.commit.ensures.survives
+    (λ late. (rw begun at (c.in_ok-write.ensures.ran late)) refl))

@@ -3,7 +3,7 @@ use Rattle.sqlite.specs.Held.{state}
 use Rattle.keep_tables.specs.Texts.{put_spent}
 use Rattle.keep_tables.proofs.SpentWriteLaws.{spent_edit, spent_put}
 use Rattle.keep_writes.proofs.RunLaws.{all_once}
-use Rattle.keep_writes.proofs.CauseLaws.{text_refused, not_spent}
+use Rattle.keep_writes.proofs.CauseLaws.{text_refused}
 use Rattle.keep_writes.proofs.spent_writes.put_amount.Goals as goal
 
 pub returns-in-Ok-clause-adds : goal.returns-in-Ok-clause-adds
@@ -41,8 +41,8 @@ returns-in-Err-clause-refused g c clean inside =
       whole,
       c.requires.stored,
     ) at (c.in-Err.ensures.runs clean inside) in
-    text_refused g.S.Store c.args.tx.now.conn.now c.execute.new.self.conn.now put_spent _ c.in-Err.error (refl, refl)
-    (2, refl) inside ran (λ is. absurd (not_spent is))
+    text_refused g.S.Store c.args.tx.now.conn.now c.execute.new.self.conn.now put_spent _ c.in-Err.error
+    (2, refl) inside ran
 
 pub returns-in-Ok-clause-ran : goal.returns-in-Ok-clause-ran
 returns-in-Ok-clause-ran g c clean inside =

@@ -1,4 +1,4 @@
-use Rattle.std.proofs.Common.{[], ◌∷◌, List, map, take, get_or, refl, sym, subst, ◌∙◌, arith}
+use Rattle.std.proofs.Common.{[], ◌∷◌, ◌++◌, ◌+◌, ℕ, List, map, take, drop, get_or, sym, subst, ◌∙◌, arith}
 use Rattle.std.proofs.lemmas.List.{take_more}
 use Rattle.std.specs.List.{AllByRecursion}
 use Rattle.sqlite_keyed.proofs.ListLemmas.{all-append}
@@ -11,11 +11,12 @@ use Rattle.keep_tables.specs.Steps.{AddsAmounts}
 use Rattle.keep_tables.proofs.SpentWriteLaws.{adds_then}
 use Rattle.keep_tables.proofs.PutLaws.{shows_then}
 use Rattle.keep_tables.proofs.StepLaws.{kept_then}
-use Rattle.std.proofs.lemmas.Option.{slice_get-get_or}
+use Rattle.sqlite_value.specs.Order.{Row}
+use Rattle.keep_writes.specs.Causes.{RefusedInside}
 use Rattle.keep_writes.specs.Runs.{RanAll}
-use Rattle.keep_writes.specs.Writes.{WritesAmount, WritesAmounts, amount_text}
-use Rattle.keep_writes.proofs.RunLaws.{ran_of, ran_then, ran_wider, amounts_next}
-use Rattle.keep_writes.proofs.CauseLaws.{err_handed, kept_inside, inside_after, inside_wider}
+use Rattle.keep_writes.specs.Writes.{amount_text}
+use Rattle.keep_writes.proofs.RunLaws.{amounts_next, amounts_cut}
+use Rattle.keep_writes.proofs.CauseLaws.{err_handed, kept_inside, inside_after, inside_first}
 use Rattle.keep_writes.proofs.spent_writes.put_amounts.Goals as goal
 
 pub rows-preserved : goal.rows-preserved
@@ -51,22 +52,11 @@ rows-preserved g c =
           (get_or c.args.rows.now c.rows.row-index (record { day = 0; vid = 0; xway = 0; tolls = 0 }) ∷ []) kept.5 one),
       λ clean inside. kept_then old mid new (kept.6 (before clean) inside)
           (kept_inside mid new (c.in_ok-put_amount.ensures.inside clean (kept.2 (before clean) inside))),
-      λ clean inside. ran_then g.S.Store (WritesAmounts c.args.rows.now) c.args.tx.now.conn.now
-          c.rows.tx.conn.now c.put_amount.new.tx.conn.now (kept.7 (before clean) inside)
-          (ran_wider g.S.Store (WritesAmount row) (WritesAmounts c.args.rows.now)
-          (λ sql params is. record {
-            place = c.rows.row-index;
-            row = row;
-            is_one = slice_get-get_or c.args.rows.now c.rows.row-index none c.rows-test.true;
-            is_put = is;
-          }) c.rows.tx.conn.now c.put_amount.new.tx.conn.now
-          (ran_of g.S.Store (WritesAmount row) (amount_text row ∷ []) ((refl, refl), tt) c.rows.tx.conn.now
-          c.put_amount.new.tx.conn.now (c.in_ok-put_amount.ensures.ran clean (kept.2 (before clean) inside)))),
       λ clean inside.
           subst (λ (l : List SpentRow). RanAll g.S.Store (map amount_text l) c.args.tx.now.conn.now
           c.put_amount.new.tx.conn.now) (sym more)
           (amounts_next g.S.Store (take c.rows.row-index c.args.rows.now) row c.args.tx.now.conn.now
-          c.rows.tx.conn.now c.put_amount.new.tx.conn.now (kept.8 (before clean) inside)
+          c.rows.tx.conn.now c.put_amount.new.tx.conn.now (kept.7 (before clean) inside)
           (c.in_ok-put_amount.ensures.ran clean (kept.2 (before clean) inside))),
     )
 
@@ -78,13 +68,12 @@ returns-in_err-put_amount-clause-refused g c clean inside =
     let none : SpentRow = record { day = 0; vid = 0; xway = 0; tolls = 0 } in
     let row = get_or c.args.rows.now c.rows.row-index none in
     err_handed c.from_residual.result c.in_err-put_amount.field-0.0 _ c.from_residual.ensures.1
-    (inside_after g.S.Store c.args.tx.now.conn.now c.rows.tx.conn.now c.put_amount.new.tx.conn.now _
-    (kept.7 early inside) (kept.6 early inside) kept.1
-    (inside_wider g.S.Store (WritesAmount row) (WritesAmounts c.args.rows.now)
-    (λ sql params is. record {
-      place = c.rows.row-index;
-      row = row;
-      is_one = slice_get-get_or c.args.rows.now c.rows.row-index none c.rows-test.true;
-      is_put = is;
-    }) c.rows.tx.conn.now c.put_amount.new.tx.conn.now _
-    (c.in_err-put_amount.ensures.refused clean (kept.2 early inside))))
+    (subst (λ (l : List (List ℕ × Row)). RefusedInside g.S.Store l c.args.tx.now.conn.now
+    c.put_amount.new.tx.conn.now c.in_err-put_amount.field-0.0)
+    (sym (amounts_cut c.args.rows.now c.rows.row-index none c.rows-test.true))
+    (inside_first g.S.Store (map amount_text (take c.rows.row-index c.args.rows.now) ++ amount_text row ∷ [])
+    (map amount_text (drop (c.rows.row-index + 1) c.args.rows.now)) c.args.tx.now.conn.now
+    c.put_amount.new.tx.conn.now _
+    (inside_after g.S.Store (map amount_text (take c.rows.row-index c.args.rows.now)) (amount_text row ∷ [])
+    c.args.tx.now.conn.now c.rows.tx.conn.now c.put_amount.new.tx.conn.now _ (kept.7 early inside)
+    (kept.6 early inside) kept.1 (c.in_err-put_amount.ensures.refused clean (kept.2 early inside)))))

@@ -5,8 +5,8 @@ use Rattle.std.specs.List.{AllByRecursion}
 use Rattle.keep_tables.specs.Stands.{FitsSpent}
 use Rattle.keep_tables.specs.Layout.{all_tables}
 use Rattle.keep_tables.specs.Steps.{AddsAmounts}
-use Rattle.keep_writes.specs.Runs.{Ran, RanAll}
-use Rattle.keep_writes.specs.Writes.{WritesAmounts, amount_text}
+use Rattle.keep_writes.specs.Runs.{RanAll}
+use Rattle.keep_writes.specs.Writes.{amount_text}
 use Rattle.keep_writes.proofs.spent_writes.put_amounts.Given as goal
 
 abbrev pub invariant-rows : goal.invariant-rows
@@ -21,6 +21,5 @@ invariant-rows g l =
     AddsAmounts old.now now.now (take l.row-index l.rows))
     × AllByRecursion FitsSpent (take l.row-index l.rows)
     × (HasCleanDisk now → IsTrue old.in_transaction → KeepsCommit old now)
-    × (HasCleanDisk now → IsTrue old.in_transaction → Ran g.S.Store (WritesAmounts l.rows) l.fn.tx.conn.now l.tx.conn.now)
     × (HasCleanDisk now → IsTrue old.in_transaction →
     RanAll g.S.Store (map amount_text (take l.row-index l.rows)) l.fn.tx.conn.now l.tx.conn.now)

@@ -11,11 +11,6 @@ returns-clause-puts g c clean inside contents holds =
     (λ ran. version_puts (state g.S.Store c.args.tx.now.conn.now) (state g.S.Store c.run.new.tx.conn.now) contents
     ran.0 holds ran.1)
 
-pub returns-clause-ran : goal.returns-clause-ran
-returns-clause-ran g c clean inside =
-    on_ok c.run.result _ _ (c.run.ensures.ran clean inside)
-    (λ ran. record { before = c.args.tx.now.conn.now; ran = ran })
-
 pub returns-clause-texts : goal.returns-clause-texts
 returns-clause-texts g c clean inside =
     on_ok c.run.result _ _ (c.run.ensures.within clean inside)

@@ -21,7 +21,7 @@ returns-in-Ok-clause-gave g c clean inside o has own =
     ) at (c.in-Ok.ensures.runs clean inside)).0
 
 pub returns-in-Err-clause-refused : goal.returns-in-Err-clause-refused
-returns-in-Err-clause-refused g c clean inside dropped =
+returns-in-Err-clause-refused g c clean inside =
     let ran = rw (
       c.params-to_sql.ensures,
       c.params-to_sql-2.ensures,
@@ -31,8 +31,8 @@ returns-in-Err-clause-refused g c clean inside dropped =
       c.from-2.ensures,
       c.from-3.ensures,
     ) at (c.in-Err.ensures.runs clean inside) in
-    text_refused g.S.Store c.args.tx.now.conn.now c.execute.new.self.conn.now put_tariff _ c.in-Err.error (refl, refl)
-    (5, refl) inside ran (λ is. dropped)
+    text_refused g.S.Store c.args.tx.now.conn.now c.execute.new.self.conn.now put_tariff _ c.in-Err.error
+    (5, refl) inside ran
 
 pub returns-in-Ok-clause-ran : goal.returns-in-Ok-clause-ran
 returns-in-Ok-clause-ran g c clean inside =

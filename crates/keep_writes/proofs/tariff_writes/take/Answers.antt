@@ -2,8 +2,8 @@ use Rattle.std.proofs.Common.{refl}
 use Rattle.sqlite.specs.Held.{state}
 use Rattle.keep_tables.specs.Texts.{drop_tariff}
 use Rattle.keep_tables.proofs.TariffWriteLaws.{drop_writes}
-use Rattle.keep_writes.proofs.RunLaws.{sees_self, all_once}
-use Rattle.keep_writes.proofs.CauseLaws.{text_refused, not_drop}
+use Rattle.keep_writes.proofs.RunLaws.{all_once}
+use Rattle.keep_writes.proofs.CauseLaws.{text_refused}
 use Rattle.keep_writes.proofs.tariff_writes.take.Goals as goal
 
 pub returns-in-Ok-clause-took : goal.returns-in-Ok-clause-took
@@ -14,26 +14,10 @@ returns-in-Ok-clause-took g c clean inside o has =
 pub returns-in-Err-clause-refused : goal.returns-in-Err-clause-refused
 returns-in-Err-clause-refused g c clean inside =
     let ran = rw (c.params-to_sql.ensures, c.from.ensures) at (c.in-Err.ensures.runs clean inside) in
-    text_refused g.S.Store c.args.tx.now.conn.now c.execute.new.self.conn.now drop_tariff _ c.in-Err.error (refl, refl)
-    (4, refl) inside ran (λ is. absurd (not_drop is))
+    text_refused g.S.Store c.args.tx.now.conn.now c.execute.new.self.conn.now drop_tariff _ c.in-Err.error
+    (4, refl) inside ran
 
 pub returns-in-Ok-clause-ran : goal.returns-in-Ok-clause-ran
 returns-in-Ok-clause-ran g c clean inside =
     let ran = rw (c.params-to_sql.ensures, c.from.ensures) at (c.in-Ok.ensures.runs clean inside) in
     all_once g.S.Store c.args.tx.now.conn.now c.execute.new.self.conn.now drop_tariff _ c.in-Ok.field-0 inside ran
-
-pub returns-in-Ok-clause-dropped : goal.returns-in-Ok-clause-dropped
-returns-in-Ok-clause-dropped g c clean inside =
-    let ran = rw (c.params-to_sql.ensures, c.from.ensures) at (c.in-Ok.ensures.runs clean inside) in (
-      c.args.tx.now.conn.now,
-      c.execute.new.self.conn.now,
-      record {
-        sql = drop_tariff;
-        params = _;
-        count = c.in-Ok.field-0;
-        written = (refl, refl);
-        inside = inside;
-        ran = ran;
-      },
-      sees_self (state g.S.Store c.execute.new.self.conn.now),
-    )

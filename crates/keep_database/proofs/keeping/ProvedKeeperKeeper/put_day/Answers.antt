@@ -5,7 +5,7 @@ use Rattle.sqlite.proofs.StateLemmas.{clean_if_open}
 use Rattle.keep_office.specs.Kept.{IsLater, with_day}
 use Rattle.keep_tables.proofs.StandLaws.{told_sound}
 use Rattle.keep_database.proofs.TellLaws.{puts_tell}
-use Rattle.keep_writes.specs.Writes.{WritesDay}
+use Rattle.keep_writes.specs.Writes.{day_texts}
 use Rattle.keep_writes.proofs.CauseLaws.{put_refused, failure_of}
 use Rattle.keep_database.proofs.StandLaws.{done_open}
 use Rattle.keep_database.proofs.keeping.ProvedKeeperKeeper.put_day.Goals as goal
@@ -45,7 +45,7 @@ returns-clause-why g c clean o stands = rw c.count.ensures.same (c.put_day-answe
 
 pub returns-clause-because : goal.returns-clause-because
 returns-clause-because g c clean o stands failed =
-    let writes = WritesDay c.args.kept.now c.args.rows.now in
+    let writes = day_texts c.args.kept.now c.args.rows.now in
     put_refused g.S.Store writes c.args.self.now.conn c.put_day-answer.new.conn
     (failure_of g.S.Store writes c.args.self.now.conn c.put_day-answer.new.conn c.put_day-answer.result (c.put_day-answer.ensures.why clean o stands) (sym c.count.ensures.same ∙ failed))
 

@@ -5,7 +5,7 @@ use Rattle.sqlite.proofs.StateLemmas.{clean_if_open}
 use Rattle.keep_office.specs.Kept.{HasNoDays, with_past}
 use Rattle.keep_tables.proofs.StandLaws.{told_sound}
 use Rattle.keep_database.proofs.TellLaws.{puts_tell}
-use Rattle.keep_writes.specs.Writes.{WritesPast}
+use Rattle.keep_writes.specs.Writes.{past_texts}
 use Rattle.keep_writes.proofs.CauseLaws.{put_refused, failure_of}
 use Rattle.keep_database.proofs.StandLaws.{done_open}
 use Rattle.keep_database.proofs.keeping.ProvedKeeperKeeper.put_past.Goals as goal
@@ -45,7 +45,7 @@ returns-clause-why g c clean o stands = rw c.count.ensures.same (c.put_past-answ
 
 pub returns-clause-because : goal.returns-clause-because
 returns-clause-because g c clean o stands failed =
-    let writes = WritesPast c.args.kept.now c.args.rows.now in
+    let writes = past_texts c.args.kept.now c.args.rows.now in
     put_refused g.S.Store writes c.args.self.now.conn c.put_past-answer.new.conn
     (failure_of g.S.Store writes c.args.self.now.conn c.put_past-answer.new.conn c.put_past-answer.result (c.put_past-answer.ensures.why clean o stands) (sym c.count.ensures.same ∙ failed))
 

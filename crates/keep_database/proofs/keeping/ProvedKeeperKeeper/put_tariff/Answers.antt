@@ -6,7 +6,7 @@ use Rattle.keep_office.specs.Kept.{with_tariff_of}
 use Rattle.keep_tables.specs.Steps.{FitsAny}
 use Rattle.keep_tables.proofs.StandLaws.{told_sound}
 use Rattle.keep_database.proofs.TellLaws.{puts_tell, any_fits}
-use Rattle.keep_writes.specs.Writes.{WritesTariff}
+use Rattle.keep_writes.specs.Writes.{tariff_texts}
 use Rattle.keep_writes.proofs.CauseLaws.{put_refused, failure_of}
 use Rattle.keep_database.proofs.StandLaws.{done_open}
 use Rattle.keep_database.proofs.keeping.ProvedKeeperKeeper.put_tariff.Goals as goal
@@ -46,7 +46,7 @@ returns-clause-why g c clean o stands = rw c.count.ensures.same (c.put_tariff-an
 
 pub returns-clause-because : goal.returns-clause-because
 returns-clause-because g c clean o stands failed =
-    let writes = WritesTariff c.args.xway c.args.tariff.now in
+    let writes = tariff_texts c.args.xway c.args.tariff.now in
     put_refused g.S.Store writes c.args.self.now.conn c.put_tariff-answer.new.conn
     (failure_of g.S.Store writes c.args.self.now.conn c.put_tariff-answer.new.conn c.put_tariff-answer.result (c.put_tariff-answer.ensures.why clean o stands) (sym c.count.ensures.same ∙ failed))
 

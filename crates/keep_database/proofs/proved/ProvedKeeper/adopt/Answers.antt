@@ -56,9 +56,9 @@ pub returns-clause-ours : goal.returns-clause-ours
 returns-clause-ours g c clean none =
     done_has c.make-made.result _ (c.why_unmade.ensures.none none) (c.make-made.ensures.ours clean)
 
-pub returns-clause-second : goal.returns-clause-second
-returns-clause-second g c clean none lacks =
-    done_has c.make-made.result _ (c.why_unmade.ensures.none none) (c.make-made.ensures.second clean lacks)
+pub returns-clause-wrote : goal.returns-clause-wrote
+returns-clause-wrote g c clean none lacks =
+    done_has c.make-made.result _ (c.why_unmade.ensures.none none) (c.make-made.ensures.wrote clean lacks)
 
 pub returns-clause-rest : goal.returns-clause-rest
 returns-clause-rest g c clean none =
