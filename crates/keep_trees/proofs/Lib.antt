@@ -6,6 +6,9 @@ pub mod Premise
 pub mod WalkLaws
 pub mod IndexLaws
 pub mod RowsLaws
+pub mod RowsTold
+pub mod VehicleEntries
+pub mod VehicleTold
 pub mod RiseLaws
 pub mod PastFound
 pub mod WantedLaws
@@ -13,6 +16,7 @@ pub mod DayFound
 pub mod TariffsFound
 pub mod TariffsTold
 pub mod ListLaws
+pub mod NumberLaws
 pub mod ResultLaws
 pub mod ListingLaws
 pub mod LastFound

@@ -76,6 +76,11 @@ pub past_begins : {size : ℕ} {pages : PageMap} {roots : Roots} → roots_of si
     → Names size our_trees pages 3 Table roots.past
 past_begins are = record { shape_is = refl; root_is = ap (λ l. slice_index l 3) are }
 
+-- the seals begin at the fifth
+pub seals_begin : {size : ℕ} {pages : PageMap} {roots : Roots} → roots_of size our_trees pages ≡ root_list roots
+    → Names size our_trees pages 4 Table roots.seals
+seals_begin are = record { shape_is = refl; root_is = ap (λ l. slice_index l 4) are }
+
 -- the tariffs begin at the sixth
 pub tariffs_begin : {size : ℕ} {pages : PageMap} {roots : Roots} → roots_of size our_trees pages ≡ root_list roots
     → Names size our_trees pages 5 Table roots.tariffs

@@ -68,7 +68,7 @@ at_one P [] x rest all = all.0
 at_one P (y ∷ front) x rest all = at_one P front x rest all.1
 
 -- entries before one that is below a key are not from the key on
-before_key : (key : Row) (front : List Row) (entry : Row) (rest : List Row) → IsIndex plain (front ++ entry ∷ rest) →
+pub before_key : (key : Row) (front : List Row) (entry : Row) (rest : List Row) → IsIndex plain (front ++ entry ∷ rest) →
     is_lt (prefix_cmp plain entry key) ≡ true →
     from_key plain key (front ++ entry ∷ rest) ≡ from_key plain key (entry ∷ rest)
 before_key key [] entry rest up low = refl

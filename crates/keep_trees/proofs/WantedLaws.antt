@@ -1,5 +1,5 @@
 -- Which amounts are wanted, by the order of their keys.
-use Rattle.std.proofs.Common.{◌≡◌, ◌⊎◌, ℕ, pos, ◌+◌, ◌<◌, ◌≤◌, ◌==◌, ◌&&◌, nat_le, true, false, [], ◌∷◌, take}
+use Rattle.std.proofs.Common.{◌≡◌, ◌⊎◌, ℕ, pos, ◌^◌, ◌<◌, ◌≤◌, ◌==◌, ◌&&◌, nat_le, true, false, [], ◌∷◌, take}
 use Rattle.std.proofs.Common.{filter, refl, ap, ap₂, ◌∙◌}
 use Rattle.std.proofs.Common.{sym, length, eq-eqb, inl, inr, arith, Ordering, Less, Equal, Greater, is_lt}
 use Rattle.std.specs.Ordering.{nat_cmp, ordering_then}
@@ -187,27 +187,23 @@ leap_up vid from to r s less e its low =
       | inr level ↦ below_of vid from to s level.1
     ]
 
--- nor from a greater one to it on the next day
-pub leap_over : (vid from to : ℕ) (r s : SpentRow) → vid < r.vid → row_cmp r s ≡ Less →
-    IsSkipped (is_of_vehicle vid from to) (pair_key (r.day + 1) vid) s
-leap_over vid from to r s more less e its low =
-    elim (before_pair (r.day + 1) vid e s its low) [
-      | inl before ↦ elim (rising r s less) [
-        | inl up ↦ absurd (omega arith)
-        | inr level ↦ let n = level.1 in above_of vid from to s (omega arith)
+-- nor from a greater one to the end of its day
+pub leap_off : (vid from to : ℕ) (r s : SpentRow) → vid < r.vid → row_cmp r s ≡ Less →
+    IsSkipped (is_of_vehicle vid from to) (pair_key r.day (2 ^ 32)) s
+leap_off vid from to r s more less e its low =
+    elim (before_pair r.day (2 ^ 32) e s its low) [
+      | inl before ↦ absurd (elim (rising r s less)
+          [ inl up ↦ omega arith | inr level ↦ let d = level.0 in omega arith ])
+      | inr level ↦ elim (rising r s less) [
+        | inl up ↦ absurd (let d = level.0 in omega arith)
+        | inr same ↦ let n = same.1 in above_of vid from to s (omega arith)
       ]
-      | inr level ↦ below_of vid from to s level.1
     ]
 
 -- the entry that is leapt from is below the key
 pub is_under : (vid : ℕ) (e : Row) (r : SpentRow) → take 3 e ≡ row_key r → r.vid < vid
     → is_lt (prefix_cmp plain e (pair_key r.day vid)) ≡ true
 is_under vid e r its less = ap is_lt (by_pair r.day vid e r its) ∙ grind (arith, nat_tests, less)
-
--- and below the key of the next day
-pub is_before : (vid : ℕ) (e : Row) (r : SpentRow) → take 3 e ≡ row_key r
-    → is_lt (prefix_cmp plain e (pair_key (r.day + 1) vid)) ≡ true
-is_before vid e r its = ap is_lt (by_pair (r.day + 1) vid e r its) ∙ grind (arith, nat_tests)
 
 -- the columns of an entry that an amount names
 pub key_columns : (e : Row) (r : SpentRow) → take 3 e ≡ row_key r → (column e 0 ≡ Int (pos r.day))

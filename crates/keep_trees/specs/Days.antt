@@ -1,6 +1,6 @@
 -- What a search in the table of days tells.
 use Rattle.std.specs.Prelude.{◌≡◌, ℕ, pos, true, List, [], ◌∷◌, ◌++◌, filter, Option, Some, None}
-use Rattle.sqlite_value.specs.declared.value.Value.TheVariants.{Blob}
+use Rattle.sqlite_value.specs.declared.value.Value.TheVariants.{Int, Blob}
 use Rattle.sqlite_value.specs.Order.{Row, column}
 use Rattle.sqlite_trees.specs.Tree.{has_rowid}
 use Rattle.sqlite_trees.specs.View.{Finds}
@@ -21,8 +21,21 @@ IsLastDay days None = days ≡ []
 IsLastDay days (Some day) = (before : List DayRecord) × (last : DayRecord) × (days ≡ before ++ last ∷ [])
     × (last.day ≡ day)
 
--- a day is told with the digest of its seal's row, and as not kept only where it has no record
-abbrev pub IsToldSealed : List Row → List Row → ℕ → Option DayRecord → Type 0
-IsToldSealed days seals day None = filter (has_rowid (pos day)) days ≡ []
-IsToldSealed days seals day (Some r) =
-    (row : Row) × Finds seals (pos day) row true × (column row 2 ≡ Blob r.tariffs.bytes)
+-- a row has the values of a day but for its seal
+abbrev pub HasOld : Row → OldRecord → Type 0
+HasOld row old =
+    (column row 2 ≡ Blob old.digest.bytes) × (column row 3 ≡ Int (pos old.bytes))
+    × (column row 4 ≡ Int (pos old.tuples)) × (column row 5 ≡ Int (pos old.notices))
+    × (column row 6 ≡ Blob old.notices_digest.bytes) × (column row 7 ≡ Int (pos old.total))
+
+-- what is told of a day but for its seal is its row's
+pub record IsOldOf (days : List Row) (day : ℕ) (old : OldRecord) : Type 0 where
+  pub number : old.day ≡ day
+  pub row : Row
+  pub found : Finds days (pos day) row true
+  pub has : HasOld row old
+
+-- a day is told but for its seal as its row has it, and as not kept only where it has no row
+abbrev pub IsToldOld : List Row → ℕ → Option OldRecord → Type 0
+IsToldOld days day None = filter (has_rowid (pos day)) days ≡ []
+IsToldOld days day (Some old) = IsOldOf days day old

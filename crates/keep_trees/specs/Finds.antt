@@ -1,17 +1,26 @@
 -- What a search in the trees finds: the first row of a key, and the amount that it has.
 
-use Rattle.std.specs.Prelude.{◌≡◌, ◌⊎◌, ℕ, Bool, true, false, List, [], ◌∷◌, pos}
+use Rattle.std.specs.Prelude.{◌≡◌, ◌⊎◌, ℕ, ℤ, Bool, true, false, List, [], ◌∷◌, pos}
 use Rattle.std.specs.List.{filter}
 use Rattle.std.specs.Ordering.{is_eq}
 use Rattle.sqlite_value.specs.declared.value.Value.TheVariants.{Int}
 use Rattle.sqlite_value.specs.Order.{Row, column}
 use Rattle.sqlite_value.specs.Keys.{plain, prefix_cmp}
+use Rattle.sqlite_trees.specs.Tree.{from_key, up_to_key}
 use Rattle.sqlite_btree.specs.Cut.{IsIn}
 
 -- the first of some rows, or there is none
 abbrev pub IsFirst : List Row → Row → Bool → Type 0
 IsFirst rows row true = (rest : List Row) × (rows ≡ row ∷ rest)
 IsFirst rows row false = rows ≡ []
+
+-- none of a table's rows has a number or one above it
+abbrev pub EndBefore : List Row → ℤ → Type 0
+EndBefore rows number = from_key plain (Int number ∷ []) rows ≡ []
+
+-- none of a table's rows has a number or one below it
+abbrev pub BeginAfter : List Row → ℤ → Type 0
+BeginAfter rows number = up_to_key plain (Int number ∷ []) rows ≡ []
 
 -- an entry begins with a key
 abbrev pub opens_with : Row → Row → Bool

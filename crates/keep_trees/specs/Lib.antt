@@ -8,3 +8,4 @@ pub mod Gives
 pub mod Days
 pub mod Own
 pub mod Tells
+pub mod Tolls

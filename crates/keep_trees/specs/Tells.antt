@@ -7,6 +7,7 @@ use Rattle.sqlite_trees.specs.Tree.{rowid, has_rowid}
 use Rattle.sqlite_trees.specs.View.{Finds}
 use Rattle.road_time.specs.declared.tariff.Tariff.{Tariff}
 use Rattle.road_time.specs.Rates.{Tariffs, benchmark, tariff_of}
+use Rattle.keep_office.specs.declared.kept.DayRecord.{DayRecord}
 use Rattle.keep_office.specs.declared.kept.PastRecord.{PastRecord}
 use Rattle.keep_office.specs.Office.{last_from}
 
@@ -20,6 +21,28 @@ HasPast row p =
 abbrev pub IsToldPast : List Row → Option PastRecord → Type 0
 IsToldPast rows None = filter (has_rowid (pos 1)) rows ≡ []
 IsToldPast rows (Some p) = (row : Row) × Finds rows (pos 1) row true × HasPast row p
+
+-- a row has the values of a day, but for its number and its seal
+abbrev pub HasDay : Row → DayRecord → Type 0
+HasDay row r =
+    (column row 2 ≡ Blob r.digest.bytes) × (column row 3 ≡ Int (pos r.bytes)) × (column row 4 ≡ Int (pos r.tuples))
+    × (column row 5 ≡ Int (pos r.notices)) × (column row 6 ≡ Blob r.notices_digest.bytes)
+    × (column row 7 ≡ Int (pos r.total))
+
+-- a day is that of its number's rows: the one in the table of days has its values, the one among the seals its seal
+pub record IsDayOf (days seals : List Row) (day : ℕ) (r : DayRecord) : Type 0 where
+  pub number : r.day ≡ day
+  pub row : Row
+  pub found : Finds days (pos day) row true
+  pub has : HasDay row r
+  pub seal : Row
+  pub sealed : Finds seals (pos day) seal true
+  pub tariffs : column seal 2 ≡ Blob r.tariffs.bytes
+
+-- a day is told as its row and its seal's have it, and as not kept only where it has no row
+abbrev pub IsToldDay : List Row → List Row → ℕ → Option DayRecord → Type 0
+IsToldDay days seals day None = filter (has_rowid (pos day)) days ≡ []
+IsToldDay days seals day (Some r) = IsDayOf days seals day r
 
 -- the last of some rows has this number, or there is none
 abbrev pub IsLastRow : List Row → Option ℕ → Type 0
@@ -48,6 +71,11 @@ pub record AreToldBelow (rows : List Row) (xway : ℕ) (tariffs : Tariffs) : Typ
   pub below : AllByRecursion (λ e. e.0 < xway) tariffs
   pub each : (x : ℕ) → x < xway → IsToldTariff rows x (tariff_of tariffs x)
 
--- each of the 256 expressways is told its tariff
-abbrev pub AreTold : List Row → Tariffs → Type 0
-AreTold rows tariffs = AreToldBelow rows 256 tariffs
+-- a row has the number of an expressway
+abbrev pub HasXway : Row → Type 0
+HasXway row = (xway : ℕ) × (rowid row ≡ Int (pos xway)) × (xway < 256)
+
+-- no row is of anything but an expressway, and each of the 256 is told its tariff
+pub record AreTold (rows : List Row) (tariffs : Tariffs) : Type 0 where
+  pub numbered : AllByRecursion HasXway rows
+  pub told : AreToldBelow rows 256 tariffs

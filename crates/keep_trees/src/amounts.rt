@@ -2,7 +2,7 @@
 ghost use Rattle.std.specs.Prelude.{◌≡◌, true, IfOk, MatchResult};
 ghost use Rattle.sqlite_value.specs.declared.value.Value.TheVariants.{Int};
 ghost use Rattle.sqlite_value.specs.Order.{Row as Columns, column};
-ghost use Rattle.sqlite_btree.specs.Cut.{IsIn};
+ghost use Rattle.sqlite_trees.specs.View.{Finds};
 ghost use Rattle.sqlite_store.specs.Db.{IsDb, roots_of, trees_in};
 ghost use Rattle.sqlite_pages.specs.Calls.{IsClean, Continues, FailsFor};
 ghost use Rattle.road_time.specs.History.{paid};
@@ -39,7 +39,7 @@ pub fn tolls_named<P: Pages>(
     ensures honest { IsClean P.Pages pages.new → IsDb (P.Pages.size pages.old) our_trees (P.Pages.pages pages.old)
         → roots_of (P.Pages.size pages.old) our_trees (P.Pages.pages pages.old) ≡ root_list roots
         → IfOk result (λ tolls. (found : Columns)
-        × IsIn found (trees_in (P.Pages.size pages.old) our_trees (P.Pages.pages pages.old) 1)
+        × Finds (trees_in (P.Pages.size pages.old) our_trees (P.Pages.pages pages.old) 1) number found true
         × HasColumns found day vid xway tolls) }
     ensures kept { Continues P.Pages pages.old pages.new }
     ensures pages { P.Pages.pages pages.new ≡ P.Pages.pages pages.old }

@@ -7,8 +7,8 @@ ghost use Rattle.keep_office.specs.Office.{Office, RowsRise, last_day as last_of
 ghost use Rattle.keep_office.specs.Office.{vehicle_rows_between};
 ghost use Rattle.keep_trees.specs.Pages.{our_trees, root_list, StandForOffice, PagesStopped};
 ghost use Rattle.keep_trees.specs.Finds.{IsHeldAmount};
-ghost use Rattle.keep_trees.specs.Days.{IsToldSealed};
-ghost use Rattle.keep_trees.specs.Tells.{IsToldPast, IsToldLast, AreTold};
+ghost use Rattle.keep_trees.specs.Tolls.{AreToldRows, AreToldOf};
+ghost use Rattle.keep_trees.specs.Tells.{IsToldDay, IsToldPast, IsToldLast, AreTold};
 ghost use Rattle.keep_trees.specs.Gives.{AnswersUnless, keep_fault_of};
 
 use crate::amounts::amount;
@@ -73,6 +73,10 @@ pub fn rows<P: Pages>(
         → StandForOffice (P.Pages.size pages.old) (P.Pages.pages pages.old) roots o
         → AnswersUnless (PagesStopped P.Pages pages.old pages.new)
         (λ rows. rows.items ≡ rows_between o from to) result }
+    ensures told { IsClean P.Pages pages.new → IsDb (P.Pages.size pages.old) our_trees (P.Pages.pages pages.old)
+        → roots_of (P.Pages.size pages.old) our_trees (P.Pages.pages pages.old) ≡ root_list roots
+        → IfOk result (λ rows. AreToldRows (trees_in (P.Pages.size pages.old) our_trees (P.Pages.pages pages.old) 1)
+        (trees_in (P.Pages.size pages.old) our_trees (P.Pages.pages pages.old) 2) from to rows.items) }
     ensures rise { IfOk result (λ rows. RowsRise rows.items) }
     ensures kept { Continues P.Pages pages.old pages.new }
     ensures pages { P.Pages.pages pages.new ≡ P.Pages.pages pages.old }
@@ -117,9 +121,9 @@ pub fn day<P: Pages>(
     ensures gives { IsClean P.Pages pages.new → (o : Office)
         → StandForOffice (P.Pages.size pages.old) (P.Pages.pages pages.old) roots o
         → AnswersUnless (PagesStopped P.Pages pages.old pages.new) (λ found. found ≡ record_of o day) result }
-    ensures sealed { IsClean P.Pages pages.new → IsDb (P.Pages.size pages.old) our_trees (P.Pages.pages pages.old)
+    ensures told { IsClean P.Pages pages.new → IsDb (P.Pages.size pages.old) our_trees (P.Pages.pages pages.old)
         → roots_of (P.Pages.size pages.old) our_trees (P.Pages.pages pages.old) ≡ root_list roots
-        → IfOk result (IsToldSealed (trees_in (P.Pages.size pages.old) our_trees (P.Pages.pages pages.old) 0)
+        → IfOk result (IsToldDay (trees_in (P.Pages.size pages.old) our_trees (P.Pages.pages pages.old) 0)
         (trees_in (P.Pages.size pages.old) our_trees (P.Pages.pages pages.old) 4) day) }
     ensures kept { Continues P.Pages pages.old pages.new }
     ensures pages { P.Pages.pages pages.new ≡ P.Pages.pages pages.old }
@@ -188,6 +192,10 @@ pub fn vehicle_rows<P: Pages>(
         → StandForOffice (P.Pages.size pages.old) (P.Pages.pages pages.old) roots o
         → AnswersUnless (PagesStopped P.Pages pages.old pages.new)
         (λ rows. rows.items ≡ vehicle_rows_between o vid from to) result }
+    ensures told { IsClean P.Pages pages.new → IsDb (P.Pages.size pages.old) our_trees (P.Pages.pages pages.old)
+        → roots_of (P.Pages.size pages.old) our_trees (P.Pages.pages pages.old) ≡ root_list roots
+        → IfOk result (λ rows. AreToldOf (trees_in (P.Pages.size pages.old) our_trees (P.Pages.pages pages.old) 1)
+        (trees_in (P.Pages.size pages.old) our_trees (P.Pages.pages pages.old) 2) vid from to rows.items) }
     ensures rise { IfOk result (λ rows. RowsRise rows.items) }
     ensures kept { Continues P.Pages pages.old pages.new }
     ensures pages { P.Pages.pages pages.new ≡ P.Pages.pages pages.old }

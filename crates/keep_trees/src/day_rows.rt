@@ -1,8 +1,7 @@
 // The rows of days and of their seals.
-ghost use Rattle.std.specs.Prelude.{◌≡◌, ◌≢◌, ◌<◌, ◌^◌, ℕ, pos, [], None, filter, IfOk, MatchResult};
+ghost use Rattle.std.specs.Prelude.{◌≡◌, ◌≢◌, ◌<◌, ◌^◌, ℕ, pos, IfOk, MatchResult};
 ghost use Rattle.sqlite_pages.specs.declared.error.Error.TheVariants.{Corrupt};
 ghost use Rattle.sqlite_pages.specs.Calls.{IsClean, Continues, FailsFor};
-ghost use Rattle.sqlite_trees.specs.Tree.{has_rowid};
 ghost use Rattle.sqlite_store.specs.Db.{IsDb, roots_of, trees_in};
 ghost use Rattle.keep_office.specs.declared.kept.DayRecord.{DayRecord as Day};
 ghost use Rattle.keep_office.specs.Kept.{sealed};
@@ -10,8 +9,8 @@ ghost use Rattle.keep_office.specs.Office.{Office, record_of, last_day};
 ghost use Rattle.keep_tables.specs.Codec.{day_row};
 ghost use Rattle.keep_tables.specs.Stands.{FitsDay};
 ghost use Rattle.keep_trees.specs.Pages.{our_trees, root_list, StandForOffice};
-ghost use Rattle.keep_trees.specs.Days.{TellsDay, IsLastDay, IsToldSealed};
-ghost use Rattle.keep_trees.specs.Tells.{IsLastRow, IsToldLast};
+ghost use Rattle.keep_trees.specs.Days.{TellsDay, IsLastDay, HasOld, IsToldOld};
+ghost use Rattle.keep_trees.specs.Tells.{IsToldDay, IsLastRow, IsToldLast};
 
 use crate::finds::find_row;
 use crate::hands::Hands;
@@ -25,8 +24,10 @@ use sqlite_value::row::Row;
 
 /// What a row of days says of a day.
 fn old_of(day: u32, row: &Row) -> Result<OldRecord, Error>
-    ensures { (r : Day) → FitsDay r → r.day ≡ day → row.now ≡ day_row r
+    ensures gives { (r : Day) → FitsDay r → r.day ≡ day → row.now ≡ day_row r
         → MatchResult result (λ old. sealed r.tariffs old ≡ r) (λ e. ⊥) }
+    ensures numbered { IfOk result (λ old. old.day ≡ day) }
+    ensures reads { IfOk result (HasOld row.now) }
 {
     let digest = digest_at(row, 2)?;
     let bytes = number_63(row, 3)?;
@@ -55,10 +56,9 @@ fn unsealed_day<P: Pages>(
     ensures done { IsClean P.Pages pages.new → (o : Office)
         → StandForOffice (P.Pages.size pages.old) (P.Pages.pages pages.old) roots o
         → MatchResult result (TellsDay (record_of o day)) (FailsFor P.Pages pages.old pages.new ⊥) }
-    ensures none { IsClean P.Pages pages.new → IsDb (P.Pages.size pages.old) our_trees (P.Pages.pages pages.old)
+    ensures told { IsClean P.Pages pages.new → IsDb (P.Pages.size pages.old) our_trees (P.Pages.pages pages.old)
         → roots_of (P.Pages.size pages.old) our_trees (P.Pages.pages pages.old) ≡ root_list roots
-        → IfOk result (λ old. old ≡ None → filter (has_rowid (pos day))
-        (trees_in (P.Pages.size pages.old) our_trees (P.Pages.pages pages.old) 0) ≡ []) }
+        → IfOk result (IsToldOld (trees_in (P.Pages.size pages.old) our_trees (P.Pages.pages pages.old) 0) day) }
     ensures kept { Continues P.Pages pages.old pages.new }
     ensures pages { P.Pages.pages pages.new ≡ P.Pages.pages pages.old }
 {
@@ -87,9 +87,9 @@ pub fn record<P: Pages>(
     ensures done { IsClean P.Pages pages.new → (o : Office)
         → StandForOffice (P.Pages.size pages.old) (P.Pages.pages pages.old) roots o
         → MatchResult result (λ found. found ≡ record_of o day) (FailsFor P.Pages pages.old pages.new ⊥) }
-    ensures sealed { IsClean P.Pages pages.new → IsDb (P.Pages.size pages.old) our_trees (P.Pages.pages pages.old)
+    ensures told { IsClean P.Pages pages.new → IsDb (P.Pages.size pages.old) our_trees (P.Pages.pages pages.old)
         → roots_of (P.Pages.size pages.old) our_trees (P.Pages.pages pages.old) ≡ root_list roots
-        → IfOk result (IsToldSealed (trees_in (P.Pages.size pages.old) our_trees (P.Pages.pages pages.old) 0)
+        → IfOk result (IsToldDay (trees_in (P.Pages.size pages.old) our_trees (P.Pages.pages pages.old) 0)
         (trees_in (P.Pages.size pages.old) our_trees (P.Pages.pages pages.old) 4) day) }
     ensures kept { Continues P.Pages pages.old pages.new }
     ensures pages { P.Pages.pages pages.new ≡ P.Pages.pages pages.old }

@@ -1,13 +1,16 @@
 // The amounts of some days, by a walk over the index.
-ghost use Rattle.std.specs.Prelude.{◌≡◌, ◌∷◌, ◌++◌, [], Bool, nat_le, pos, take, filter, OnOk, MatchResult};
+ghost use Rattle.std.specs.Prelude.{◌≡◌, ◌∷◌, ◌++◌, [], Bool, nat_le, pos, take, filter, IfOk, OnOk};
+ghost use Rattle.std.specs.Prelude.{MatchResult};
 ghost use Rattle.sqlite_pages.specs.Calls.{IsClean, Continues, FailsFor};
 ghost use Rattle.sqlite_btree.specs.Cut.{IsIn};
 ghost use Rattle.sqlite_value.specs.declared.value.Value.TheVariants.{Int};
-ghost use Rattle.sqlite_store.specs.Db.{trees_in};
+ghost use Rattle.sqlite_store.specs.Db.{IsDb, roots_of, trees_in};
 ghost use Rattle.road_time.specs.declared.day.SpentRow.{SpentRow as Amount};
 ghost use Rattle.keep_office.specs.Office.{Office, rows_between};
-ghost use Rattle.keep_trees.specs.Pages.{our_trees, StandForOffice};
+ghost use Rattle.keep_trees.specs.Pages.{our_trees, root_list, StandForOffice};
 ghost use Rattle.keep_trees.specs.Rows.{row_key, is_within, Walking, IsWalkedTo};
+ghost use Rattle.keep_trees.specs.Walks.{HasAhead, Advances};
+ghost use Rattle.keep_trees.specs.Tolls.{IsAmountOf, AreToldRows, Telling, IsTelling};
 
 use crate::amounts::tolls_named;
 use crate::hands::Hands;
@@ -43,6 +46,9 @@ pub fn amount_behind<P: Pages>(
         → IsIn entry.now (trees_in (P.Pages.size pages.old) our_trees (P.Pages.pages pages.old) 2)
         → MatchResult result (λ r. (s : Amount) → IsIn s o.rows → take 3 entry.now ≡ row_key s → r ≡ s)
         (FailsFor P.Pages pages.old pages.new ⊥) }
+    ensures told { IsClean P.Pages pages.new → IsDb (P.Pages.size pages.old) our_trees (P.Pages.pages pages.old)
+        → roots_of (P.Pages.size pages.old) our_trees (P.Pages.pages pages.old) ≡ root_list roots
+        → IfOk result (IsAmountOf (trees_in (P.Pages.size pages.old) our_trees (P.Pages.pages pages.old) 1) entry.now) }
     ensures kept { Continues P.Pages pages.old pages.new }
     ensures pages { P.Pages.pages pages.new ≡ P.Pages.pages pages.old }
 {
@@ -87,6 +93,16 @@ pub fn take_amount<P: Pages>(
         (IsWalkedTo (P.Pages.size pages.old) (P.Pages.pages pages.old) o wanted
         hands.new.batch hands.new.entry rows.new.items)
         (FailsFor P.Pages pages.old pages.new ⊥) }
+    ensures told { IsClean P.Pages pages.new → (db : IsDb (P.Pages.size pages.old) our_trees (P.Pages.pages pages.old))
+        → roots_of (P.Pages.size pages.old) our_trees (P.Pages.pages pages.old) ≡ root_list roots
+        → HasAhead (db.layouts 3) (P.Pages.size pages.old) (P.Pages.pages pages.old)
+        (trees_in (P.Pages.size pages.old) our_trees (P.Pages.pages pages.old) 2) hands.old.batch hands.old.entry
+        → IfOk result (λ found. (r : Amount)
+        × IsAmountOf (trees_in (P.Pages.size pages.old) our_trees (P.Pages.pages pages.old) 1) hands.old.entry r
+        × (rows.new.items ≡ rows.old.items ++ filter (λ s. nat_le from s.day) (r ∷ []))
+        × Advances (db.layouts 3) (P.Pages.size pages.old) (P.Pages.pages pages.old)
+        (trees_in (P.Pages.size pages.old) our_trees (P.Pages.pages pages.old) 2) hands.old.entry
+        hands.new.batch hands.new.entry found) }
     ensures kept { Continues P.Pages pages.old pages.new }
     ensures pages { P.Pages.pages pages.new ≡ P.Pages.pages pages.old }
 {
@@ -125,6 +141,12 @@ fn step<P: Pages>(
         (IsWalkedTo (P.Pages.size pages.old) (P.Pages.pages pages.old) o (is_within from to)
         hands.new.batch hands.new.entry rows.new.items)
         (FailsFor P.Pages pages.old pages.new ⊥) }
+    ensures told { IsClean P.Pages pages.new
+        → roots_of (P.Pages.size pages.old) our_trees (P.Pages.pages pages.old) ≡ root_list roots
+        → Telling (P.Pages.size pages.old) (P.Pages.pages pages.old) from to hands.old.batch hands.old.entry
+        rows.old.items
+        → IfOk result (IsTelling (P.Pages.size pages.old) (P.Pages.pages pages.old) from to
+        hands.new.batch hands.new.entry rows.new.items) }
     ensures kept { Continues P.Pages pages.old pages.new }
     ensures pages { P.Pages.pages pages.new ≡ P.Pages.pages pages.old }
 {
@@ -147,6 +169,10 @@ pub fn gathered<P: Pages>(
     ensures done { IsClean P.Pages pages.new → (o : Office)
         → StandForOffice (P.Pages.size pages.old) (P.Pages.pages pages.old) roots o
         → MatchResult result (λ rows. rows.items ≡ rows_between o from to) (FailsFor P.Pages pages.old pages.new ⊥) }
+    ensures told { IsClean P.Pages pages.new → IsDb (P.Pages.size pages.old) our_trees (P.Pages.pages pages.old)
+        → roots_of (P.Pages.size pages.old) our_trees (P.Pages.pages pages.old) ≡ root_list roots
+        → IfOk result (λ rows. AreToldRows (trees_in (P.Pages.size pages.old) our_trees (P.Pages.pages pages.old) 1)
+        (trees_in (P.Pages.size pages.old) our_trees (P.Pages.pages pages.old) 2) from to rows.items) }
     ensures kept { Continues P.Pages pages.old pages.new }
     ensures pages { P.Pages.pages pages.new ≡ P.Pages.pages pages.old }
 {

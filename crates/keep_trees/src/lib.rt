@@ -13,6 +13,7 @@ mod hands;
 mod history_row;
 mod keys;
 mod listing;
+mod numbering;
 mod opening;
 mod order;
 mod page_trees;

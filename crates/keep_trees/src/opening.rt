@@ -9,40 +9,10 @@ ghost use Rattle.keep_trees.specs.Pages.{our_trees, root_list, ListsSecond};
 use crate::finds::find_row;
 use crate::hands::Hands;
 use crate::listing::{SCHEMA_ROOT, key_at, table_at};
+use crate::numbering::{begins_after, ends_before};
 use crate::roots::Roots;
 use crate::values::holds;
-use sqlite_btree::table;
 use sqlite_pages::{Error, Pages};
-
-/// Whether no row is listed from a number on.
-fn ends_before<P: Pages>(pages: &mut P, hands: &mut Hands, number: i64) -> Result<bool, Error>
-    ensures kept { Continues P.Pages pages.old pages.new }
-    ensures pages { P.Pages.pages pages.new ≡ P.Pages.pages pages.old }
-{
-    table::fill(
-        pages,
-        &mut hands.scratch,
-        SCHEMA_ROOT,
-        number,
-        &mut hands.batch,
-    )?;
-    Ok(hands.batch.is_empty())
-}
-
-/// Whether no row is listed up to a number.
-fn begins_after<P: Pages>(pages: &mut P, hands: &mut Hands, number: i64) -> Result<bool, Error>
-    ensures kept { Continues P.Pages pages.old pages.new }
-    ensures pages { P.Pages.pages pages.new ≡ P.Pages.pages pages.old }
-{
-    table::fill_back(
-        pages,
-        &mut hands.scratch,
-        SCHEMA_ROOT,
-        number,
-        &mut hands.batch,
-    )?;
-    Ok(hands.batch.is_empty())
-}
 
 /// Whether the tables are of version 2.
 fn is_second<P: Pages>(pages: &mut P, hands: &mut Hands, form: u32) -> Result<bool, Error>
@@ -73,10 +43,10 @@ fn lists_seven<P: Pages>(pages: &mut P, hands: &mut Hands) -> Result<bool, Error
     ensures kept { Continues P.Pages pages.old pages.new }
     ensures pages { P.Pages.pages pages.new ≡ P.Pages.pages pages.old }
 {
-    if !begins_after(pages, hands, 0)? {
+    if !begins_after(pages, hands, SCHEMA_ROOT, 0)? {
         return Ok(false);
     }
-    ends_before(pages, hands, 8)
+    ends_before(pages, hands, SCHEMA_ROOT, 8)
 }
 
 /// Where our trees begin, if each is listed byte for byte.

@@ -9,8 +9,8 @@ ghost use Rattle.keep_office.specs.Office.{vehicle_rows_between};
 ghost use Rattle.keep_trees.specs.Pages.{our_trees, root_list, HoldOffice, ListsSecond};
 ghost use Rattle.keep_trees.specs.Pages.{StandForOffice, PagesStopped};
 ghost use Rattle.keep_trees.specs.Finds.{IsHeldAmount};
-ghost use Rattle.keep_trees.specs.Days.{IsToldSealed};
-ghost use Rattle.keep_trees.specs.Tells.{IsToldPast, IsToldLast, AreTold};
+ghost use Rattle.keep_trees.specs.Tolls.{AreToldRows, AreToldOf};
+ghost use Rattle.keep_trees.specs.Tells.{IsToldDay, IsToldPast, IsToldLast, AreTold};
 ghost use Rattle.keep_trees.specs.Gives.{AnswersUnless};
 
 use crate::calls;
@@ -38,6 +38,9 @@ impl<P: Pages> PageTrees<P> {
         ensures found { IfOk result (λ trees. IsClean P.Pages trees.pages → (o : Office)
             → HoldOffice (P.Pages.size pages) (P.Pages.pages pages) o
             → StandForOffice (P.Pages.size trees.pages) (P.Pages.pages trees.pages) trees.roots o) }
+        ensures begins { IfOk result (λ trees. IsClean P.Pages trees.pages
+            → IsDb (P.Pages.size pages) our_trees (P.Pages.pages pages)
+            → roots_of (P.Pages.size pages) our_trees (P.Pages.pages pages) ≡ root_list trees.roots) }
         ensures second { IfOk result (λ trees. IsClean P.Pages trees.pages
             → IsDb (P.Pages.size pages) our_trees (P.Pages.pages pages)
             → ListsSecond (trees_in (P.Pages.size pages) our_trees (P.Pages.pages pages) 6)) }
@@ -93,10 +96,10 @@ impl<P: Pages> PageTrees<P> {
             → StandForOffice (P.Pages.size self.old.pages) (P.Pages.pages self.old.pages) self.old.roots o
             → AnswersUnless (PagesStopped P.Pages self.old.pages self.new.pages)
             (λ found. found ≡ record_of o day) result }
-        ensures sealed { IsClean P.Pages self.new.pages
+        ensures told { IsClean P.Pages self.new.pages
             → IsDb (P.Pages.size self.old.pages) our_trees (P.Pages.pages self.old.pages)
             → roots_of (P.Pages.size self.old.pages) our_trees (P.Pages.pages self.old.pages) ≡ root_list self.old.roots
-            → IfOk result (IsToldSealed (trees_in (P.Pages.size self.old.pages) our_trees
+            → IfOk result (IsToldDay (trees_in (P.Pages.size self.old.pages) our_trees
             (P.Pages.pages self.old.pages) 0)
             (trees_in (P.Pages.size self.old.pages) our_trees (P.Pages.pages self.old.pages) 4) day) }
         ensures kept { Continues P.Pages self.old.pages self.new.pages }
@@ -150,6 +153,12 @@ impl<P: Pages> PageTrees<P> {
             → StandForOffice (P.Pages.size self.old.pages) (P.Pages.pages self.old.pages) self.old.roots o
             → AnswersUnless (PagesStopped P.Pages self.old.pages self.new.pages)
             (λ rows. rows.items ≡ rows_between o from to) result }
+        ensures told { IsClean P.Pages self.new.pages
+            → IsDb (P.Pages.size self.old.pages) our_trees (P.Pages.pages self.old.pages)
+            → roots_of (P.Pages.size self.old.pages) our_trees (P.Pages.pages self.old.pages) ≡ root_list self.old.roots
+            → IfOk result (λ rows. AreToldRows (trees_in (P.Pages.size self.old.pages) our_trees
+            (P.Pages.pages self.old.pages) 1)
+            (trees_in (P.Pages.size self.old.pages) our_trees (P.Pages.pages self.old.pages) 2) from to rows.items) }
         ensures rise { IfOk result (λ rows. RowsRise rows.items) }
         ensures kept { Continues P.Pages self.old.pages self.new.pages }
         ensures same { (P.Pages.pages self.new.pages ≡ P.Pages.pages self.old.pages)
@@ -177,6 +186,13 @@ impl<P: Pages> PageTrees<P> {
             → StandForOffice (P.Pages.size self.old.pages) (P.Pages.pages self.old.pages) self.old.roots o
             → AnswersUnless (PagesStopped P.Pages self.old.pages self.new.pages)
             (λ rows. rows.items ≡ vehicle_rows_between o vid from to) result }
+        ensures told { IsClean P.Pages self.new.pages
+            → IsDb (P.Pages.size self.old.pages) our_trees (P.Pages.pages self.old.pages)
+            → roots_of (P.Pages.size self.old.pages) our_trees (P.Pages.pages self.old.pages) ≡ root_list self.old.roots
+            → IfOk result (λ rows. AreToldOf (trees_in (P.Pages.size self.old.pages) our_trees
+            (P.Pages.pages self.old.pages) 1)
+            (trees_in (P.Pages.size self.old.pages) our_trees (P.Pages.pages self.old.pages) 2) vid from to
+            rows.items) }
         ensures rise { IfOk result (λ rows. RowsRise rows.items) }
         ensures kept { Continues P.Pages self.old.pages self.new.pages }
         ensures same { (P.Pages.pages self.new.pages ≡ P.Pages.pages self.old.pages)

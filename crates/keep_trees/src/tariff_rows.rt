@@ -1,5 +1,6 @@
 // The rows of tariffs.
-ghost use Rattle.std.specs.Prelude.{◌≡◌, ◌+◌, ℕ, IfOk, MatchResult};
+ghost use Rattle.std.specs.Prelude.{◌≡◌, ◌+◌, ℕ, true, IfOk, MatchResult};
+ghost use Rattle.std.specs.List.{AllByRecursion};
 ghost use Rattle.sqlite_pages.specs.Calls.{IsClean, Continues, FailsFor};
 ghost use Rattle.road_time.specs.declared.tariff.Tariff.{Tariff as Fare};
 ghost use Rattle.road_time.specs.Rates.{IsTariff};
@@ -7,11 +8,12 @@ ghost use Rattle.keep_office.specs.Office.{Office};
 ghost use Rattle.keep_tables.specs.Codec.{tariff_row};
 ghost use Rattle.sqlite_store.specs.Db.{IsDb, roots_of, trees_in};
 ghost use Rattle.keep_trees.specs.Pages.{our_trees, root_list, StandForOffice};
-ghost use Rattle.keep_trees.specs.Tells.{HasTariff, AreToldBelow, AreTold};
+ghost use Rattle.keep_trees.specs.Tells.{HasTariff, AreToldBelow, HasXway, AreTold};
 ghost use Rattle.keep_trees.specs.Own.{tariffs_below};
 
 use crate::finds::find_row;
 use crate::hands::Hands;
+use crate::numbering::{begins_after, ends_before};
 use crate::roots::Roots;
 use crate::values::{number_8, number_32};
 use road_time::{Tariff, Tariffs};
@@ -84,7 +86,50 @@ fn add_tariff<P: Pages>(
     }
 }
 
-/// The tariffs of the expressways that have their own.
+/// Whether each row of tariffs has the number of an expressway.
+fn are_numbered<P: Pages>(pages: &mut P, hands: &mut Hands, roots: Roots) -> Result<bool, Error>
+    ensures done { IsClean P.Pages pages.new → (o : Office)
+        → StandForOffice (P.Pages.size pages.old) (P.Pages.pages pages.old) roots o
+        → MatchResult result (λ are. are ≡ true) (FailsFor P.Pages pages.old pages.new ⊥) }
+    ensures told { IsClean P.Pages pages.new → IsDb (P.Pages.size pages.old) our_trees (P.Pages.pages pages.old)
+        → roots_of (P.Pages.size pages.old) our_trees (P.Pages.pages pages.old) ≡ root_list roots
+        → IfOk result (λ are. are ≡ true → AllByRecursion HasXway
+        (trees_in (P.Pages.size pages.old) our_trees (P.Pages.pages pages.old) 5)) }
+    ensures kept { Continues P.Pages pages.old pages.new }
+    ensures pages { P.Pages.pages pages.new ≡ P.Pages.pages pages.old }
+{
+    let begins = begins_after(pages, hands, roots.tariffs, -1)?;
+    if !begins {
+        return Ok(false);
+    }
+    let ends = ends_before(pages, hands, roots.tariffs, 256)?;
+    Ok(ends)
+}
+
+/// The tariffs of the 256 expressways that have their own.
+fn each_tariff<P: Pages>(
+    pages: &mut P,
+    hands: &mut Hands,
+    roots: Roots,
+    alloc: Global,
+) -> Result<Tariffs, Error>
+    ensures done { IsClean P.Pages pages.new → (o : Office)
+        → StandForOffice (P.Pages.size pages.old) (P.Pages.pages pages.old) roots o
+        → MatchResult result (λ tariffs. tariffs ≡ o.tariffs) (FailsFor P.Pages pages.old pages.new ⊥) }
+    ensures told { IsClean P.Pages pages.new → IsDb (P.Pages.size pages.old) our_trees (P.Pages.pages pages.old)
+        → roots_of (P.Pages.size pages.old) our_trees (P.Pages.pages pages.old) ≡ root_list roots
+        → IfOk result (AreToldBelow (trees_in (P.Pages.size pages.old) our_trees (P.Pages.pages pages.old) 5) 256) }
+    ensures kept { Continues P.Pages pages.old pages.new }
+    ensures pages { P.Pages.pages pages.new ≡ P.Pages.pages pages.old }
+{
+    let mut tariffs = Tariffs::new(alloc);
+    'xways: for xway in 0..256u32 {
+        add_tariff(pages, hands, roots, xway as u8, &mut tariffs)?;
+    }
+    Ok(tariffs)
+}
+
+/// The tariffs of the expressways that have their own. A row of another number is refused.
 pub fn own_tariffs<P: Pages>(
     pages: &mut P,
     hands: &mut Hands,
@@ -100,9 +145,10 @@ pub fn own_tariffs<P: Pages>(
     ensures kept { Continues P.Pages pages.old pages.new }
     ensures pages { P.Pages.pages pages.new ≡ P.Pages.pages pages.old }
 {
-    let mut tariffs = Tariffs::new(alloc);
-    'xways: for xway in 0..256u32 {
-        add_tariff(pages, hands, roots, xway as u8, &mut tariffs)?;
+    let numbered = are_numbered(pages, hands, roots)?;
+    if !numbered {
+        return Err(Error::Corrupt);
     }
+    let tariffs = each_tariff(pages, hands, roots, alloc)?;
     Ok(tariffs)
 }

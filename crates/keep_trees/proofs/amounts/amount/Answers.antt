@@ -3,7 +3,8 @@ use Rattle.std.proofs.Common.{w64, IsTrue}
 use Rattle.std.proofs.lemmas.Result.{err_from_is_err_and}
 use Rattle.sqlite_value.specs.declared.value.Value.TheVariants.{Int}
 use Rattle.sqlite_value.specs.Order.{Row, column}
-use Rattle.sqlite_trees.specs.View.{is_int}
+use Rattle.sqlite_trees.specs.Tree.{has_rowid}
+use Rattle.sqlite_trees.specs.View.{Finds, is_int}
 use Rattle.sqlite_store.specs.Db.{IsDb, roots_of, trees_in}
 use Rattle.keep_trees.specs.Finds.{HasKey, HasColumns, amount_key}
 use Rattle.keep_trees.specs.Pages.{our_trees, root_list}
@@ -12,6 +13,7 @@ use Rattle.keep_trees.proofs.Premise.{key_begins, key_at, differ, is_numbered, n
 use Rattle.sqlite_pages.specs.PageMap.{PageMap}
 use Rattle.sqlite_btree.specs.Cut.{IsIn}
 use Rattle.sqlite_btree.proofs.Results.{so_ok}
+use Rattle.keep_trees.proofs.Members.{of_filter}
 use Rattle.keep_trees.proofs.ResultLaws.{if_then}
 use Rattle.keep_trees.proofs.amounts.amount.Goals as goal
 
@@ -75,10 +77,14 @@ returns-then-not-found-clause-honest g c clean db are =
 
 pub returns-clause-honest : goal.returns-clause-honest
 returns-clause-honest g c clean db are =
+    let id = to_z w64 (of_z w64 c.in_ok-number.number) in
+    let rows = trees_in (g.P.Pages.size c.args.pages.now) our_trees (g.P.Pages.pages c.args.pages.now) 1 in
     let told =
     subst₂ (λ (n : ℕ) (m : PageMap). IsDb n our_trees m → roots_of n our_trees m ≡ root_list c.args.roots
     → IfOk c.tolls_named.result
-    (λ tolls. (found : Row) × IsIn found (trees_in n our_trees m 1)
+    (λ tolls. (found : Row) × Finds (trees_in n our_trees m 1) id found true
     × HasColumns found c.args.day c.args.vid c.args.xway tolls))
     c.find_key.ensures.kept.same_size c.find_key.ensures.pages (c.tolls_named.ensures.honest clean) in
-    if_then c.tolls_named.result _ _ (told db are) (λ tolls row. inl row)
+    if_then c.tolls_named.result _ _ (told db are)
+    (λ tolls row.
+    inl (row.0, (of_filter (has_rowid id) rows row.0 (subst (IsIn row.0) (sym row.1) (inl refl))).0, row.2))

@@ -1,4 +1,4 @@
-use Rattle.std.proofs.Common.{rules, ◌≡◌, inl, refl, sym, subst, ap, ◌∙◌, arith, to_z, of_z, w64}
+use Rattle.std.proofs.Common.{rules, ◌≡◌, true, refl, sym, subst₂, ap, ◌∙◌, arith, to_z, of_z, w64}
 use Rattle.std.proofs.lemmas.Result.{err_from_is_err_and}
 use Rattle.sqlite_value.specs.declared.value.Value.TheVariants.{Int}
 use Rattle.sqlite_value.specs.Order.{Row, column}
@@ -6,10 +6,7 @@ use Rattle.sqlite_pages.specs.Calls.{FailsFor}
 use Rattle.sqlite_store.specs.Db.{trees_in}
 use Rattle.keep_trees.specs.Pages.{our_trees}
 use Rattle.keep_trees.proofs.SpentLaws.{row_behind, read_of}
-use Rattle.sqlite_btree.specs.Cut.{IsIn}
-use Rattle.sqlite_trees.specs.Tree.{has_rowid}
 use Rattle.sqlite_trees.specs.View.{Finds}
-use Rattle.keep_trees.proofs.Members.{of_filter}
 use Rattle.keep_trees.proofs.ResultLaws.{if_so}
 use Rattle.keep_trees.proofs.Premise.{table_begins, spent_at, differ, one_found, not_both}
 use Rattle.keep_trees.proofs.amounts.tolls_named.Goals as goal
@@ -58,8 +55,8 @@ returns-clause-done g c clean o has entry key number =
 pub returns-clause-honest : goal.returns-clause-honest
 returns-clause-honest g c clean db are =
     let rows = trees_in (g.P.Pages.size c.args.pages.now) our_trees (g.P.Pages.pages c.args.pages.now) 1 in
-    let finds = subst (Finds rows _ c.find_row.new.row) c.if-not-there.false
+    let whole : to_z w64 (of_z w64 c.args.number) ≡ c.args.number = search rules in
+    let finds : Finds rows c.args.number c.find_row.new.row true =
+    subst₂ (λ n f. Finds rows n c.find_row.new.row f) whole c.if-not-there.false
     ((c.in_ok-there.ensures.done clean) 1 db (table_begins are) refl) in
-    let there = of_filter (has_rowid _) rows c.find_row.new.row
-    (subst (IsIn c.find_row.new.row) (sym finds) (inl refl)) in
-    if_so c.tolls_at.result _ _ _ c.tolls_at.ensures (λ tolls columns. (c.find_row.new.row, there.0, columns))
+    if_so c.tolls_at.result _ _ _ c.tolls_at.ensures (λ tolls columns. (c.find_row.new.row, finds, columns))

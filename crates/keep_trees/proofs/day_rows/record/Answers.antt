@@ -11,8 +11,9 @@ use Rattle.sqlite_store.specs.Db.{IsDb, Names, trees_in}
 use Rattle.keep_office.specs.Office.{record_of}
 use Rattle.keep_tables.specs.Codec.{seal_row}
 use Rattle.keep_trees.specs.Pages.{our_trees}
-use Rattle.keep_trees.specs.Days.{TellsDay}
-use Rattle.keep_trees.proofs.Premise.{seals_at, moved}
+use Rattle.keep_trees.specs.Days.{TellsDay, IsToldOld}
+use Rattle.keep_trees.specs.Tells.{IsDayOf}
+use Rattle.keep_trees.proofs.Premise.{seals_at, seals_begin, moved}
 use Rattle.keep_trees.proofs.DayFound.{day_row_found, day_row_none, is_told, with_its_seal}
 use Rattle.keep_trees.proofs.day_rows.record.Goals as goal
 
@@ -89,3 +90,30 @@ returns-clause-done g c clean o has =
     ∙ with_its_seal c.in-Some.old told.day its.record_is c.in_ok-seal.seal (sym told.kept_is ∙ its.found) told.told
     (sym (ap (λ (z : Row). column z 2) its.row_is) ∙ c.in_ok-seal.ensures)
     ∙ sym told.kept_is
+
+pub returns-clause-told : goal.returns-clause-told
+returns-clause-told g c clean db are =
+    let size = g.P.Pages.size c.args.pages.now in
+    let pages = g.P.Pages.pages c.args.pages.now in
+    let days = trees_in size our_trees pages 0 in
+    let seals = trees_in size our_trees pages 4 in
+    let old = subst (IsToldOld days c.args.day) c.in-Some.is
+    ((c.in_ok-old.ensures.told (omega (arith, c.find_row.ensures.kept.clean))) db are) in
+    let whole : to_z w64 (of_z w64 c.from.result) ≡ pos c.args.day = search rules in
+    let seek =
+    subst₂ (λ (n : ℕ) (m : PageMap). (t : ℕ) → IsDb n our_trees m → Names n our_trees m t Table c.args.roots.seals
+    → reals_at our_trees t ≡ 0
+    → Finds (trees_in n our_trees m t) (to_z w64 (of_z w64 c.from.result)) c.find_row.new.row c.in_ok-there.there)
+    c.unsealed_day.ensures.kept.same_size c.unsealed_day.ensures.pages (c.in_ok-there.ensures.done clean) in
+    let finds : Finds seals (pos c.args.day) c.find_row.new.row true =
+    subst₂ (λ n f. Finds seals n c.find_row.new.row f) whole c.if-not-there.false (seek 4 db (seals_begin are) refl) in
+    subst (IsDayOf days seals c.args.day) (sym c.seal.ensures)
+    (record {
+      number = old.number;
+      row = old.row;
+      found = old.found;
+      has = old.has;
+      seal = c.find_row.new.row;
+      sealed = finds;
+      tariffs = c.in_ok-seal.ensures;
+    })

@@ -123,3 +123,19 @@ returns-clause-done g c clean o has at s among keys =
     let f : s.xway ≡ entry.amount.xway = cc in f ∙ x) in
     same_row c.in_ok-day.day c.in_ok-vid.vid c.in_ok-xway.xway c.in_ok-tolls.tolls s (sym sd) (sym sv) (sym sx)
     (tolls ∙ paid_at o.rows s c.in_ok-day.day c.in_ok-vid.vid c.in_ok-xway.xway sd sv sx (differ has) among)
+
+pub returns-clause-told : goal.returns-clause-told
+returns-clause-told g c clean db are =
+    let id = to_z w64 (of_z w64 c.in_ok-number.number) in
+    let whole : id ≡ c.in_ok-number.number = search rules in
+    let tolls = c.in_ok-tolls.ensures.honest clean db are in
+    record {
+      day = c.in_ok-day.ensures;
+      vid = c.in_ok-vid.ensures;
+      xway = c.in_ok-xway.ensures;
+      number = id;
+      named = c.in_ok-number.ensures ∙ ap Int (sym whole);
+      row = tolls.0;
+      found = tolls.1;
+      has = tolls.2;
+    }

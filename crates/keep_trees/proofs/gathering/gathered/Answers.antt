@@ -4,13 +4,15 @@ use Rattle.sqlite_pages.specs.PageMap.{PageMap}
 use Rattle.sqlite_value.specs.declared.value.Value.TheVariants.{Int}
 use Rattle.sqlite_value.specs.Order.{Row}
 use Rattle.sqlite_btree.proofs.Results.{within_limit}
-use Rattle.sqlite_store.specs.Db.{trees_in}
+use Rattle.sqlite_store.specs.Db.{roots_of, trees_in}
 use Rattle.sqlite_store.proofs.Causes.{Continues-trans}
 use Rattle.road_time.specs.declared.day.SpentRow.{SpentRow}
-use Rattle.keep_trees.specs.Pages.{our_trees, StandForOffice}
+use Rattle.keep_trees.specs.Pages.{our_trees, root_list, StandForOffice}
 use Rattle.keep_trees.specs.Walks.{StartsAt}
 use Rattle.keep_trees.specs.Rows.{is_within, Walking, IsWalkedTo}
-use Rattle.keep_trees.proofs.Premise.{key_at, listed}
+use Rattle.keep_trees.proofs.Premise.{key_at, key_begins, listed}
+use Rattle.keep_trees.specs.Tolls.{AreToldRows, Telling, IsTelling}
+use Rattle.keep_trees.proofs.RowsTold.{begins}
 use Rattle.keep_trees.proofs.RowsLaws.{IsSkipped, resumes}
 use Rattle.keep_trees.proofs.WantedLaws.{early_days}
 use Rattle.sqlite_keyed.proofs.ListLemmas.{all_of}
@@ -57,6 +59,17 @@ walk-init g c = (
       refl refl (listed has) refl (all_of (IsSkipped (is_within c.args.from c.args.to) (Int (pos c.args.from) ∷ []))
       (early_days c.args.from c.args.to) o.rows)
       c.first_entry.new.batch c.first_entry.new.entry true starts),
+  λ clean db are.
+      let size = g.P.Pages.size c.args.pages.now in
+      let pages = g.P.Pages.pages c.args.pages.now in
+      let key : c.set_day.new.key ≡ Int (pos c.args.from) ∷ [] = c.in_ok-set_day.ensures in
+      let starts =
+      subst₂ (λ (k : Row) f. StartsAt (db.layouts 3) size pages
+      (trees_in size our_trees pages 2) k c.first_entry.new.batch c.first_entry.new.entry f)
+      key c.if-not-found.false ((c.in_ok-found.ensures.done clean) 2 db (key_begins are) refl) in
+      subst (λ (l : List SpentRow). Telling size pages c.args.from c.args.to
+      c.first_entry.new.batch c.first_entry.new.entry l)
+      (sym c.new-rows.ensures.items) (begins c.args.from c.args.to db c.first_entry.new.batch c.first_entry.new.entry true starts),
 )
 
 pub returns-in_err-more-clause-done : goal.returns-in_err-more-clause-done
@@ -92,4 +105,47 @@ walk-preserved g c = (
       (is_within c.args.from c.args.to) c.step.new.hands.batch c.step.new.hands.entry c.step.new.rows.items)
       c.if-not-more.false ((c.in_ok-more.ensures.done (omega arith)) o there walking)) in
       done has w,
+  λ clean db are.
+      let kept = c.walk.invariant.0 in
+      let w = c.walk.invariant.3 (omega (arith, c.step.ensures.kept.clean)) db are in
+      let done =
+      subst₂ (λ (n : ℕ) (m : PageMap). roots_of n our_trees m ≡ root_list c.args.roots
+      → Telling n m c.args.from c.args.to c.walk.hands.batch c.walk.hands.entry c.walk.rows.items
+      → IsTelling n m c.args.from c.args.to c.step.new.hands.batch c.step.new.hands.entry
+      c.step.new.rows.items true)
+      kept.same_size c.walk.invariant.1
+      (λ there walking.
+      subst (IsTelling (g.P.Pages.size c.walk.pages) (g.P.Pages.pages c.walk.pages) c.args.from c.args.to
+      c.step.new.hands.batch c.step.new.hands.entry c.step.new.rows.items)
+      c.if-not-more.false (c.in_ok-more.ensures.told clean there walking)) in
+      done are w,
 )
+
+pub returns-then-not-found-clause-told : goal.returns-then-not-found-clause-told
+returns-then-not-found-clause-told g c clean db are =
+    let size = g.P.Pages.size c.args.pages.now in
+    let pages = g.P.Pages.pages c.args.pages.now in
+    let key : c.set_day.new.key ≡ Int (pos c.args.from) ∷ [] = c.in_ok-set_day.ensures in
+    let starts =
+    subst₂ (λ (k : Row) f. StartsAt (db.layouts 3) size pages
+    (trees_in size our_trees pages 2) k c.first_entry.new.batch c.first_entry.new.entry f)
+    key c.if-not-found.true ((c.in_ok-found.ensures.done clean) 2 db (key_begins are) refl) in
+    subst (λ (l : List SpentRow). AreToldRows (trees_in size our_trees pages 1) (trees_in size our_trees pages 2)
+    c.args.from c.args.to l)
+    (sym c.new-rows.ensures.items) (begins c.args.from c.args.to db c.first_entry.new.batch c.first_entry.new.entry false starts)
+
+pub returns-then-not-more-clause-told : goal.returns-then-not-more-clause-told
+returns-then-not-more-clause-told g c clean db are =
+    let kept = c.walk.invariant.0 in
+    let w = c.walk.invariant.3 (omega (arith, c.step.ensures.kept.clean)) db are in
+    let done =
+    subst₂ (λ (n : ℕ) (m : PageMap). roots_of n our_trees m ≡ root_list c.args.roots
+    → Telling n m c.args.from c.args.to c.walk.hands.batch c.walk.hands.entry c.walk.rows.items
+    → IsTelling n m c.args.from c.args.to c.step.new.hands.batch c.step.new.hands.entry
+    c.step.new.rows.items false)
+    kept.same_size c.walk.invariant.1
+    (λ there walking.
+    subst (IsTelling (g.P.Pages.size c.walk.pages) (g.P.Pages.pages c.walk.pages) c.args.from c.args.to
+    c.step.new.hands.batch c.step.new.hands.entry c.step.new.rows.items)
+    c.if-not-more.true (c.in_ok-more.ensures.told clean there walking)) in
+    done are w

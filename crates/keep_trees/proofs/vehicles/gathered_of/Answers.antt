@@ -1,15 +1,17 @@
-use Rattle.std.proofs.Common.{ℕ, [], true, false, refl, sym, subst, subst₂, ◌∙◌, arith, List}
+use Rattle.std.proofs.Common.{◌≡◌, ℕ, [], true, false, refl, sym, subst, subst₂, ◌∙◌, arith, List}
 use Rattle.std.proofs.lemmas.Result.{err_from_is_err_and}
 use Rattle.sqlite_pages.specs.PageMap.{PageMap}
 use Rattle.sqlite_btree.proofs.Results.{within_limit}
-use Rattle.sqlite_store.specs.Db.{trees_in}
+use Rattle.sqlite_store.specs.Db.{roots_of, trees_in}
 use Rattle.sqlite_store.proofs.Causes.{Continues-trans}
 use Rattle.road_time.specs.declared.day.SpentRow.{SpentRow}
-use Rattle.keep_trees.specs.Pages.{our_trees, StandForOffice}
+use Rattle.keep_trees.specs.Pages.{our_trees, root_list, StandForOffice}
 use Rattle.keep_trees.specs.Finds.{pair_key}
 use Rattle.keep_trees.specs.Walks.{StartsAt}
 use Rattle.keep_trees.specs.Rows.{is_of_vehicle, Walking, IsWalkedTo}
-use Rattle.keep_trees.proofs.Premise.{key_at, listed}
+use Rattle.keep_trees.proofs.Premise.{key_at, key_begins, listed}
+use Rattle.keep_trees.specs.Tolls.{AreToldOf, TellingOf, IsTellingOf}
+use Rattle.keep_trees.proofs.VehicleTold.{begins_of}
 use Rattle.keep_trees.proofs.RowsLaws.{IsSkipped, resumes}
 use Rattle.keep_trees.proofs.WantedLaws.{early_of}
 use Rattle.sqlite_keyed.proofs.ListLemmas.{all_of}
@@ -54,6 +56,18 @@ walk-init g c = (
       (resumes o wanted has.holds.db key [] o.rows (trees_in size our_trees pages 2) [] refl refl (listed has) refl
       (all_of (IsSkipped wanted key) (early_of c.args.vid c.args.from c.args.to) o.rows)
       c.seek_pair.new.hands.batch c.seek_pair.new.hands.entry true starts),
+  λ clean db are.
+      let size = g.P.Pages.size c.args.pages.now in
+      let pages = g.P.Pages.pages c.args.pages.now in
+      let starts =
+      subst (StartsAt (db.layouts 3) size pages (trees_in size our_trees pages 2) (pair_key c.args.from c.args.vid)
+      c.seek_pair.new.hands.batch c.seek_pair.new.hands.entry)
+      c.if-not-found.false (c.in_ok-found.ensures.done clean db (key_begins are)) in
+      subst (λ (l : List SpentRow). TellingOf size pages c.args.vid c.args.from c.args.to
+      c.seek_pair.new.hands.batch c.seek_pair.new.hands.entry l)
+      (sym c.new-rows.ensures.items)
+      (begins_of c.args.vid c.args.from c.args.to db c.seek_pair.new.hands.batch c.seek_pair.new.hands.entry true
+      starts),
 )
 
 pub returns-in_err-more-clause-done : goal.returns-in_err-more-clause-done
@@ -91,4 +105,47 @@ walk-preserved g c = (
       c.step.new.rows.items)
       c.if-not-more.false ((c.in_ok-more.ensures.done (omega arith)) o there walking)) in
       done has w,
+  λ clean db are.
+      let kept = c.walk.invariant.0 in
+      let w = c.walk.invariant.3 (omega (arith, c.step.ensures.kept.clean)) db are in
+      let done =
+      subst₂ (λ (n : ℕ) (m : PageMap). roots_of n our_trees m ≡ root_list c.args.roots
+      → TellingOf n m c.args.vid c.args.from c.args.to c.walk.hands.batch c.walk.hands.entry c.walk.rows.items
+      → IsTellingOf n m c.args.vid c.args.from c.args.to c.step.new.hands.batch c.step.new.hands.entry
+      c.step.new.rows.items true)
+      kept.same_size c.walk.invariant.1
+      (λ there walking.
+      subst (IsTellingOf (g.P.Pages.size c.walk.pages) (g.P.Pages.pages c.walk.pages) c.args.vid c.args.from c.args.to
+      c.step.new.hands.batch c.step.new.hands.entry c.step.new.rows.items)
+      c.if-not-more.false (c.in_ok-more.ensures.told clean there walking)) in
+      done are w,
 )
+
+pub returns-then-not-found-clause-told : goal.returns-then-not-found-clause-told
+returns-then-not-found-clause-told g c clean db are =
+    let size = g.P.Pages.size c.args.pages.now in
+    let pages = g.P.Pages.pages c.args.pages.now in
+    let starts =
+    subst (StartsAt (db.layouts 3) size pages (trees_in size our_trees pages 2) (pair_key c.args.from c.args.vid)
+    c.seek_pair.new.hands.batch c.seek_pair.new.hands.entry)
+    c.if-not-found.true (c.in_ok-found.ensures.done clean db (key_begins are)) in
+    subst (λ (l : List SpentRow). AreToldOf (trees_in size our_trees pages 1) (trees_in size our_trees pages 2)
+    c.args.vid c.args.from c.args.to l)
+    (sym c.new-rows.ensures.items)
+    (begins_of c.args.vid c.args.from c.args.to db c.seek_pair.new.hands.batch c.seek_pair.new.hands.entry false starts)
+
+pub returns-then-not-more-clause-told : goal.returns-then-not-more-clause-told
+returns-then-not-more-clause-told g c clean db are =
+    let kept = c.walk.invariant.0 in
+    let w = c.walk.invariant.3 (omega (arith, c.step.ensures.kept.clean)) db are in
+    let done =
+    subst₂ (λ (n : ℕ) (m : PageMap). roots_of n our_trees m ≡ root_list c.args.roots
+    → TellingOf n m c.args.vid c.args.from c.args.to c.walk.hands.batch c.walk.hands.entry c.walk.rows.items
+    → IsTellingOf n m c.args.vid c.args.from c.args.to c.step.new.hands.batch c.step.new.hands.entry
+    c.step.new.rows.items false)
+    kept.same_size c.walk.invariant.1
+    (λ there walking.
+    subst (IsTellingOf (g.P.Pages.size c.walk.pages) (g.P.Pages.pages c.walk.pages) c.args.vid c.args.from c.args.to
+    c.step.new.hands.batch c.step.new.hands.entry c.step.new.rows.items)
+    c.if-not-more.true (c.in_ok-more.ensures.told clean there walking)) in
+    done are w
