@@ -7,5 +7,7 @@ pub mod AmountLaws
 pub mod OfficeLaws
 pub mod CauseLaws
 pub mod StoreLaws
+pub mod WriteLaws
+pub mod PutLaws
 pub mod TariffLaws
 pub mod ClearLaws

@@ -9,3 +9,4 @@ pub mod Room
 pub mod Causes
 pub mod Stores
 pub mod Clears
+pub mod Puts

@@ -12,6 +12,7 @@ ghost use Rattle.keep_tables.specs.Stands.{FitsSpent};
 ghost use Rattle.keep_puts.specs.Trees.{AreOurs};
 ghost use Rattle.keep_puts.specs.Steps.{IfDone, AreBelow, PutsBoth, AddsKept, MayFollow};
 ghost use Rattle.keep_puts.specs.Room.{IsDoneIf, AreNumbers, HasNumbers, TakesAmounts};
+ghost use Rattle.keep_puts.specs.Puts.{PutsFrom, PutsAmounts};
 ghost use Rattle.keep_puts.specs.Causes.{StepCause};
 
 use crate::rows::{set_amount, set_entry, set_key};
@@ -76,6 +77,9 @@ fn put_from<S: Store>(
     ensures adds { IsClean (S.Store.view store.new) → AreBelow first ((S.Store.view store.old).trees 1)
         → IfOk result (λ done. IfDone done
         (AddsKept (S.Store.view store.old).trees (S.Store.view store.new).trees rows.now)) }
+    ensures puts { IsClean (S.Store.view store.new) → AreBelow first ((S.Store.view store.old).trees 1)
+        → IfOk result (λ done. IfDone done
+        (PutsFrom first rows.now (S.Store.view store.old).trees (S.Store.view store.new).trees)) }
     ensures frame { IsClean (S.Store.view store.new)
         → OnOk result (OnlyWrites (S.Store.view store.old) (S.Store.view store.new)) }
     ensures err { IsClean (S.Store.view store.new)
@@ -171,6 +175,8 @@ pub fn put_amounts<S: Store>(
         → IfOk result (λ done. IfDone done (MayFollow ((S.Store.view store.old).trees 2) rows.now)) }
     ensures adds { IsClean (S.Store.view store.new) → IfOk result (λ done. IfDone done
         (AddsKept (S.Store.view store.old).trees (S.Store.view store.new).trees rows.now)) }
+    ensures puts { IsClean (S.Store.view store.new) → IfOk result (λ done. IfDone done
+        (PutsAmounts rows.now (S.Store.view store.old).trees (S.Store.view store.new).trees)) }
     ensures frame { IsClean (S.Store.view store.new)
         → OnOk result (OnlyWrites (S.Store.view store.old) (S.Store.view store.new)) }
     ensures err { IsClean (S.Store.view store.new)

@@ -8,6 +8,7 @@ ghost use Rattle.keep_puts.specs.Trees.{AreOurs};
 ghost use Rattle.keep_puts.specs.Steps.{IfDone};
 ghost use Rattle.keep_puts.specs.Room.{IsDoneIf, TakesAnew, RoomAnew};
 ghost use Rattle.keep_puts.specs.Causes.{StepCause};
+ghost use Rattle.keep_puts.specs.Puts.{PutsAnew, Writes};
 ghost use Rattle.keep_puts.specs.Stores.{Makes, Stores};
 
 use crate::clearing::clear;
@@ -31,6 +32,8 @@ fn write_anew<S: Store>(
     requires fits { IsPastPut kept.now rows.now }
     ensures wrote { IsClean (S.Store.view store.new) → IfOk result (λ done. IfDone done
         (Makes FitsAny (anew kept.now rows.now) (S.Store.view store.old).trees (S.Store.view store.new).trees)) }
+    ensures puts { IsClean (S.Store.view store.new) → IfOk result (λ done. IfDone done
+        (PutsAnew kept.now rows.now (S.Store.view store.old).trees (S.Store.view store.new).trees)) }
     ensures frame { IsClean (S.Store.view store.new)
         → OnOk result (OnlyWrites (S.Store.view store.old) (S.Store.view store.new)) }
     ensures err { IsClean (S.Store.view store.new)
@@ -54,7 +57,9 @@ pub fn put_anew<S: Store>(
     rows: &[SpentRow],
 ) -> Result<bool, StoreError>
     requires { IsPastPut kept.now rows.now }
-    ensures { Stores S.Store (RoomAnew rows.now) FitsAny (anew kept.now rows.now) store.old store.new result }
+    ensures stores { Stores S.Store (RoomAnew rows.now) FitsAny (anew kept.now rows.now)
+        store.old store.new result }
+    ensures writes { Writes S.Store (PutsAnew kept.now rows.now) store.old store.new result }
 {
     if !begin(store)? {
         return Ok(false);

@@ -11,6 +11,7 @@ ghost use Rattle.keep_puts.specs.Trees.{AreOurs};
 ghost use Rattle.keep_puts.specs.Steps.{IfDone, IsFreshDay, IsFreshPast};
 ghost use Rattle.keep_puts.specs.Room.{IsDoneIf, TakesDay, TakesPast, RoomForDay, RoomForPast, RoomForTariff};
 ghost use Rattle.keep_puts.specs.Causes.{StepCause, PutCause};
+ghost use Rattle.keep_puts.specs.Puts.{PutsDay, PutsPast, PutsTariff, Writes};
 ghost use Rattle.keep_puts.specs.Stores.{Makes, StaysCommitted, Stores, IsNotDone};
 
 use crate::amounts::put_amounts;
@@ -82,6 +83,8 @@ fn write_day<S: Store>(
         (S.Store.view store.new).trees)) }
     ensures fresh { IsClean (S.Store.view store.new) → IfOk result (λ done. IfDone done
         (IsFreshDay kept.now rows.now (S.Store.view store.old).trees)) }
+    ensures puts { IsClean (S.Store.view store.new) → IfOk result (λ done. IfDone done
+        (PutsDay kept.now rows.now (S.Store.view store.old).trees (S.Store.view store.new).trees)) }
     ensures frame { IsClean (S.Store.view store.new)
         → OnOk result (OnlyWrites (S.Store.view store.old) (S.Store.view store.new)) }
     ensures err { IsClean (S.Store.view store.new)
@@ -112,6 +115,7 @@ pub fn put_day<S: Store>(
         (with_day kept.now rows.now) store.old store.new result }
     ensures fresh { IsClean (S.Store.view store.new) → IfOk result (λ done. IfDone done
         (IsFreshDay kept.now rows.now (S.Store.view store.old).committed)) }
+    ensures writes { Writes S.Store (PutsDay kept.now rows.now) store.old store.new result }
 {
     if !begin(store)? {
         return Ok(false);
@@ -137,6 +141,8 @@ pub(crate) fn write_past<S: Store>(
         (S.Store.view store.new).trees)) }
     ensures fresh { IsClean (S.Store.view store.new) → IfOk result (λ done. IfDone done
         (IsFreshPast rows.now (S.Store.view store.old).trees)) }
+    ensures puts { IsClean (S.Store.view store.new) → IfOk result (λ done. IfDone done
+        (PutsPast kept.now rows.now (S.Store.view store.old).trees (S.Store.view store.new).trees)) }
     ensures frame { IsClean (S.Store.view store.new)
         → OnOk result (OnlyWrites (S.Store.view store.old) (S.Store.view store.new)) }
     ensures err { IsClean (S.Store.view store.new)
@@ -164,6 +170,7 @@ pub fn put_past<S: Store>(
         store.old store.new result }
     ensures fresh { IsClean (S.Store.view store.new) → IfOk result (λ done. IfDone done
         (IsFreshPast rows.now (S.Store.view store.old).committed)) }
+    ensures writes { Writes S.Store (PutsPast kept.now rows.now) store.old store.new result }
 {
     if !begin(store)? {
         return Ok(false);
@@ -182,7 +189,9 @@ pub fn put_tariff<S: Store>(
     tariff: &Tariff,
 ) -> Result<bool, StoreError>
     requires { IsTariff tariff.now }
-    ensures { Stores S.Store RoomForTariff FitsAny (with_tariff_of xway tariff.now) store.old store.new result }
+    ensures stores { Stores S.Store RoomForTariff FitsAny (with_tariff_of xway tariff.now)
+        store.old store.new result }
+    ensures writes { Writes S.Store (PutsTariff xway tariff.now) store.old store.new result }
 {
     if !begin(store)? {
         return Ok(false);

@@ -1,4 +1,4 @@
-use Rattle.std.proofs.Common.{◌≡◌, ◌+ℤ◌, pos, ℕ, ℤ, [], ◌∷◌, take, get_or, sym, ap, subst, ◌∙◌}
+use Rattle.std.proofs.Common.{◌≡◌, ◌≤◌, ◌+ℤ◌, pos, ℕ, ℤ, List, [], ◌∷◌, length, take, get_or, sym, ap, subst, ◌∙◌}
 use Rattle.std.proofs.Common.{to_z, of_z, w64, arith, rules}
 use Rattle.std.specs.List.{AllByRecursion}
 use Rattle.std.proofs.lemmas.List.{take_more}
@@ -9,6 +9,8 @@ use Rattle.road_time.specs.declared.day.SpentRow.{SpentRow}
 use Rattle.keep_tables.specs.Stands.{FitsSpent}
 use Rattle.keep_puts.specs.Trees.{AreOurs}
 use Rattle.keep_puts.specs.Steps.{AreBelow, AddsKept}
+use Rattle.keep_puts.specs.Puts.{PutsFrom}
+use Rattle.keep_puts.proofs.PutLaws.{counted, put_more}
 use Rattle.keep_puts.proofs.AmountLaws.{amount_adds, adds_more, counted_on}
 use Rattle.keep_puts.proofs.amounts.put_from.Goals as goal
 
@@ -45,4 +47,13 @@ rows-preserved g c =
       whole ∙ c.in-Some.ensures.1 ∙ ap (λ (n : ℤ). n +ℤ pos 1) kept.3 ∙ counted_on _ c.rows.row-index,
       search rules,
       search rules,
+      λ clean below.
+          let so_far = kept.1 (before clean) below in
+          let low : c.rows.row-index ≤ length c.args.rows.now = omega (arith, c.rows-test.true) in
+          let first = to_z w64 (of_z w64 c.args.first) in
+          let number = to_z w64 c.rows.number-bits in
+          subst (λ (l : List SpentRow). PutsFrom first l old.trees new.trees) (sym more)
+          (put_more first (take c.rows.row-index c.args.rows.now) row number old.trees mid.trees new.trees
+          (counted first number c.rows.row-index c.args.rows.now low kept.3) so_far.1 (kept.6 (before clean) below)
+          (c.in_ok-put_amount.ensures.puts clean)),
     )

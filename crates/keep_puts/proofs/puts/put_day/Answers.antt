@@ -7,7 +7,9 @@ use Rattle.keep_puts.specs.Steps.{IsFreshDay}
 use Rattle.keep_puts.specs.Room.{TakesDay, RoomForDay}
 use Rattle.keep_puts.proofs.CauseLaws.{commit_err}
 use Rattle.keep_puts.proofs.OfficeLaws.{told_so}
+use Rattle.keep_puts.specs.Puts.{PutsDay}
 use Rattle.keep_puts.proofs.StoreLaws.{finished}
+use Rattle.keep_puts.proofs.WriteLaws.{written}
 use Rattle.keep_puts.proofs.puts.put_day.Goals as goal
 
 pub returns-clause-stores : goal.returns-clause-stores
@@ -41,3 +43,15 @@ returns-clause-fresh g c clean =
     let early : IsClean (g.S.Store.view c.begin.new.store) = omega (arith, late, c.write_day.ensures.quiet.clean) in
     told_so c.finish.result c.in_ok-done.done _ _ c.finish.ensures.same (c.in_ok-done.ensures.fresh late)
     (subst (IsFreshDay c.args.kept.now c.args.rows.now) (c.in_ok-begin.ensures.settled early).1)
+
+pub returns-clause-writes : goal.returns-clause-writes
+returns-clause-writes g c =
+    let written_now = c.write_day.new.store in
+    written g.S.Store (PutsDay c.args.kept.now c.args.rows.now) c.args.store.now c.begin.new.store written_now c.finish.new.store c.in_ok-done.done c.finish.result
+    (λ clean. (c.in_ok-begin.ensures.settled clean).1) c.begin.ensures.quiet.outcomes
+    (λ clean. omega (arith, c.write_day.ensures.quiet.clean)) c.in_ok-done.ensures.puts
+    c.write_day.ensures.quiet.outcomes
+    (λ sound. clean_if_open (g.S.Store.view written_now) (g.met.S.Store.shut_if_dirty written_now)
+    (is_open_now g.S.Store written_now (g.met.S.Store.broken_if_shut written_now) sound))
+    (λ clean. omega (arith, c.finish.ensures.clean)) c.finish.ensures.same c.finish.ensures.commits
+    c.finish.ensures.crash

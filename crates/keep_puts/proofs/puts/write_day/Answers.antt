@@ -5,6 +5,7 @@ use Rattle.keep_tables.specs.Stands.{FitsDay}
 use Rattle.keep_tables.proofs.PutLaws.{below_sum}
 use Rattle.keep_puts.specs.Steps.{IfDone, Joins}
 use Rattle.keep_puts.proofs.OfficeLaws.{day_made, day_fresh, done_both}
+use Rattle.keep_puts.proofs.ClearLaws.{done_then}
 use Rattle.keep_puts.proofs.puts.write_day.Goals as goal
 
 pub put_amounts-requires-clause-small : goal.put_amounts-requires-clause-small
@@ -57,3 +58,26 @@ returns-clause-fresh g c clean =
     subst (λ (b : Bool). IfDone b sealed) c.if-not-branch-2.false (c.in_ok-put_seal.ensures.done late) in
     done_both c.put_amounts.result _ _ _ c.put_amounts.ensures.fits (c.put_amounts.ensures.follow clean)
     (λ small follow. day_fresh a.trees first.trees second.trees kept c.args.rows.now one two follow)
+
+pub returns-clause-puts : goal.returns-clause-puts
+returns-clause-puts g c clean =
+    let a = g.S.Store.view c.args.store.now in
+    let first = g.S.Store.view c.put_record.new.store in
+    let second = g.S.Store.view c.put_seal.new.store in
+    let late : IsClean second = omega (arith, c.put_amounts.ensures.quiet.clean) in
+    let early : IsClean first = omega (arith, late, c.put_seal.ensures.quiet.clean) in
+    let kept = c.args.kept.now in
+    let recorded = Joins 0 (day_row kept) (pos kept.day) a.trees first.trees in
+    let sealed = Joins 4 (seal_row kept) (pos kept.day) first.trees second.trees in
+    let one : recorded =
+    subst (λ (b : Bool). IfDone b recorded) c.if-not-branch.false (c.in_ok-put_record.ensures.done early) in
+    let two : sealed =
+    subst (λ (b : Bool). IfDone b sealed) c.if-not-branch-2.false (c.in_ok-put_seal.ensures.done late) in
+    done_then c.put_amounts.result _ _ (c.put_amounts.ensures.puts clean)
+    (λ puts. record {
+      recorded = first.trees;
+      sealed = second.trees;
+      record_joins = one;
+      seal_joins = two;
+      amounts = puts;
+    })

@@ -4,6 +4,7 @@ use Rattle.keep_tables.specs.Codec.{past_row}
 use Rattle.keep_tables.specs.Stands.{FitsPast}
 use Rattle.keep_puts.specs.Steps.{IfDone, Joins}
 use Rattle.keep_puts.proofs.OfficeLaws.{past_made, past_fresh, done_both}
+use Rattle.keep_puts.proofs.ClearLaws.{done_then}
 use Rattle.keep_puts.proofs.puts.write_past.Goals as goal
 
 pub returns-clause-wrote : goal.returns-clause-wrote
@@ -32,3 +33,15 @@ returns-clause-fresh g c clean =
     (c.in_ok-put_history.ensures.done early) in
     done_both c.put_amounts.result _ _ _ c.put_amounts.ensures.fits (c.put_amounts.ensures.follow clean)
     (λ small follow. past_fresh a.trees first.trees kept c.args.rows.now one follow)
+
+pub returns-clause-puts : goal.returns-clause-puts
+returns-clause-puts g c clean =
+    let a = g.S.Store.view c.args.store.now in
+    let first = g.S.Store.view c.put_history.new.store in
+    let early : IsClean first = omega (arith, c.put_amounts.ensures.quiet.clean) in
+    let kept = c.args.kept.now in
+    let one : Joins 3 (past_row kept) (pos 1) a.trees first.trees =
+    subst (λ (b : Bool). IfDone b (Joins 3 (past_row kept) (pos 1) a.trees first.trees)) c.if-not-branch.false
+    (c.in_ok-put_history.ensures.done early) in
+    done_then c.put_amounts.result _ _ (c.put_amounts.ensures.puts clean)
+    (λ puts. record { recorded = first.trees; record_joins = one; amounts = puts })
