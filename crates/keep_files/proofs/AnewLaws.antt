@@ -1,16 +1,12 @@
 -- A history that all begins anew with, put into a store.
 use Rattle.std.proofs.Common.{◌≡◌, inl, inr, ℕ, Bool, true, false, List, Option, Some, None, Result, Ok, Err}
 use Rattle.std.proofs.Common.{refl, sym, subst, ap, ◌∙◌}
-use Rattle.sqlite_trees.specs.View.{View}
 use Rattle.sqlite_trees.specs.declared.store.Store.{Ghosts}
 use Rattle.sqlite_trees.specs.declared.error.StoreError.{StoreError}
 use Rattle.sqlite_pages.specs.declared.pages.Pages.{Ghosts as PagesGhosts}
 use Rattle.keep_office.specs.declared.kept.KeepFault.{KeepFault}
 use Rattle.keep_office.specs.declared.kept.KeepFault.TheVariants.{Failed}
-use Rattle.keep_office.specs.Office.{Office}
-use Rattle.keep_tables.specs.Steps.{FitsAny}
 use Rattle.keep_trees.specs.declared.page_trees.PageTrees.{PageTrees}
-use Rattle.keep_puts.specs.Stores.{Stores}
 use Rattle.keep_database.specs.declared.proved.ProvedKeeper.{ProvedKeeper}
 use Rattle.keep_files.specs.declared.cause.Cause.{Cause}
 use Rattle.keep_files.specs.declared.kept.Kept.{Kept}
@@ -45,14 +41,15 @@ told_failed_anew said fault answer error is told which =
     (told_of said fault error told which)
 
 module _ {P S : Type 0} (p : PagesGhosts P) (g : Ghosts S) (gives : Opening P S → Part P S → Type 0)
-    (refuses : Opening P S → Cause → Type 0) (foreign : Opening P S → Type 0) (room : View → Type 0)
-    (next : Office → Office) (path : List ℕ) (held : Option (Kept (PageTrees P) (ProvedKeeper S)))
-    (said : Option Cause) (result : Result (Unit {0}) KeepFault) (comes : Part P S → Type 0) where
+    (refuses : Opening P S → Cause → Type 0) (foreign : Opening P S → Type 0)
+    (see : S → S → Result Bool StoreError → Type 0) (path : List ℕ)
+    (held : Option (Kept (PageTrees P) (ProvedKeeper S))) (said : Option Cause) (result : Result (Unit {0}) KeepFault)
+    (comes : Part P S → Type 0) where
   -- it was put into a store
   pub put_anew_so : (before after : S) (answer : Result Bool StoreError) → comes (AsStore before)
-      → Stores g room FitsAny next before after answer → IsToldAnew said answer result
+      → see before after answer → IsToldAnew said answer result
       → HoldsFound (FoundAgain p gives after) held
-      → IsAskedAnew p g gives refuses foreign room next path held said result comes
+      → IsAskedAnew p g gives refuses foreign see path held said result comes
   put_anew_so before after answer from stores told kept = inl (record {
     before = before;
     after = after;
@@ -65,13 +62,13 @@ module _ {P S : Type 0} (p : PagesGhosts P) (g : Ghosts S) (gives : Opening P S 
 
   -- no store could be opened, for a cause
   pub not_anew : (why : Cause) → held ≡ None → IsNotAnew (NotOpened g comes refuses) path (IsForeign foreign comes) why
-      → IsToldBy said result why → IsAskedAnew p g gives refuses foreign room next path held said result comes
+      → IsToldBy said result why → IsAskedAnew p g gives refuses foreign see path held said result comes
   not_anew why none known told = inr (none, record { cause = why; known = known; told = told })
 
   -- what was put into what came of something, was put into what came of where that came from
   pub anew_so : (comes' : Part P S → Type 0) → ((part : Part P S) → comes part → comes' part)
-      → IsAskedAnew p g gives refuses foreign room next path held said result comes
-      → IsAskedAnew p g gives refuses foreign room next path held said result comes'
+      → IsAskedAnew p g gives refuses foreign see path held said result comes
+      → IsAskedAnew p g gives refuses foreign see path held said result comes'
   anew_so comes' more (inl put) = inl (record {
     before = put.before;
     after = put.after;
@@ -96,14 +93,15 @@ module _ {P S : Type 0} (p : PagesGhosts P) (g : Ghosts S) (gives : Opening P S 
           (other.0, (other.1.0, (opening_so comes comes' other.1.0 more other.1.1.0, other.1.1.1)))
 
 module _ {P S : Type 0} (p : PagesGhosts P) (g : Ghosts S) (gives : Opening P S → Part P S → Type 0)
-    (refuses : Opening P S → Cause → Type 0) (foreign : Opening P S → Type 0) (room : View → Type 0)
-    (next : Office → Office) (path : List ℕ) (old held : Option (Kept (PageTrees P) (ProvedKeeper S)))
-    (said : Option Cause) (result : Result (Unit {0}) KeepFault) where
+    (refuses : Opening P S → Cause → Type 0) (foreign : Opening P S → Type 0)
+    (see : S → S → Result Bool StoreError → Type 0) (path : List ℕ)
+    (old held : Option (Kept (PageTrees P) (ProvedKeeper S))) (said : Option Cause)
+    (result : Result (Unit {0}) KeepFault) where
   -- it was put by trees that came of the file
   pub anew_by_trees : (trees : PageTrees P) → OfFile g gives PutsNothing path old (AsTrees trees)
-      → IsAnewByTrees p g gives refuses foreign room next trees path held said result
-      → AskedAnew p g gives refuses foreign room next old path held said result
+      → IsAnewByTrees p g gives refuses foreign see trees path held said result
+      → AskedAnew p g gives refuses foreign see old path held said result
   anew_by_trees trees came put =
-      anew_so p g gives refuses foreign room next path held said result
+      anew_so p g gives refuses foreign see path held said result
       (Comes g gives PutsNothing (λ part. part ≡ AsTrees trees)) (OfFile g gives PutsNothing path old)
       (trees_so g gives PutsNothing PutsNothing (IsFirst gives path old) trees (λ a b h. h) came) put

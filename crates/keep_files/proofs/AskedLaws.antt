@@ -2,7 +2,6 @@
 use Rattle.std.proofs.Common.{◌≡◌, inl, inr, ℕ, Bool, true, List, Option, Some, None, Result, Ok, Err}
 use Rattle.std.proofs.Common.{IfOk, false, refl, sym, subst, ap, ◌∙◌}
 use Rattle.sqlite_value.specs.Order.{Row}
-use Rattle.sqlite_trees.specs.View.{View}
 use Rattle.sqlite_trees.specs.declared.store.Store.{Ghosts}
 use Rattle.sqlite_trees.specs.declared.error.StoreError.{StoreError}
 use Rattle.sqlite_pages.specs.declared.pages.Pages.{Ghosts as PagesGhosts}
@@ -11,7 +10,6 @@ use Rattle.keep_office.specs.declared.kept.KeepFault.{KeepFault}
 use Rattle.keep_office.specs.declared.kept.KeepFault.TheVariants.{Failed}
 use Rattle.keep_office.specs.Office.{Office}
 use Rattle.keep_trees.specs.declared.page_trees.PageTrees.{PageTrees}
-use Rattle.keep_puts.specs.Stores.{Stores}
 use Rattle.keep_database.specs.declared.proved.ProvedKeeper.{ProvedKeeper}
 use Rattle.keep_files.specs.declared.cause.Cause.{Cause}
 use Rattle.keep_files.specs.declared.kept.Kept.{Kept}
@@ -76,11 +74,10 @@ told_failed said fault answer error is told which =
     subst (λ (r : Result Bool StoreError). IsToldAs said r (Err fault)) (sym is) (told_of said fault error told which)
 
 -- a put was not done
-pub misfits_so : {S : Type 0} (g : Ghosts S) (room : View → Type 0) (asks : Office → Type 0) (next : Office → Office)
-    (before after : S) (answer : Result Bool StoreError) (done : Bool) → answer ≡ Ok done → done ≡ false →
-    Stores g room asks next before after answer → Misfits g room asks next before after
-misfits_so g room asks next before after answer done is so h =
-    subst (λ (r : Result Bool StoreError). Stores g room asks next before after r) (is ∙ ap Ok so) h
+pub misfits_so : {S : Type 0} (see : S → S → Result Bool StoreError → Type 0) (before after : S)
+    (answer : Result Bool StoreError) (done : Bool) → answer ≡ Ok done → done ≡ false → see before after answer →
+    Misfits see before after
+misfits_so see before after answer done is so h = subst (see before after) (is ∙ ap Ok so) h
 
 -- a cause that is known was told
 pub unopened_for : {A : Type 0} (knows : Cause → Type 0) (said : Option Cause) (result : Result A KeepFault)
@@ -92,7 +89,7 @@ pub unopened_so : {A : Type 0} (knows knows' : Cause → Type 0) (said : Option 
     ((cause : Cause) → knows cause → knows' cause) → WasUnopened knows said result → WasUnopened knows' said result
 unopened_so knows knows' said result more h = record { cause = h.cause; known = more h.cause h.known; told = h.told }
 
-module _ {P S : Type 0} (g : Ghosts S) (writes : List ℕ → Row → Type 0) (asks : Office → Type 0)
+module _ {P S : Type 0} (g : Ghosts S) (writes : List (List ℕ × Row)) (asks : Office → Type 0)
     (next : Office → Office) (held : Option (Kept (PageTrees P) (ProvedKeeper S))) (said : Option Cause)
     (result : Result (Unit {0}) KeepFault) where
   -- a call was made of a keeper of which more is known
@@ -103,6 +100,7 @@ module _ {P S : Type 0} (g : Ghosts S) (writes : List ℕ → Row → Type 0) (a
     after = made.after;
     ready = more made.before made.ready;
     does = made.does;
+    shown = made.shown;
     kept = made.kept;
     says = made.says;
   }
@@ -113,15 +111,15 @@ module _ {P S : Type 0} (g : Ghosts S) (writes : List ℕ → Row → Type 0) (a
   made_of may kept fit = made_so (λ k. k ≡ kept) may (λ k is. subst may (sym is) fit)
 
 module _ {P S : Type 0} (p : PagesGhosts P) (g : Ghosts S) (gives : Opening P S → Part P S → Type 0)
-    (refuses : Opening P S → Cause → Type 0) (room : View → Type 0) (writes : List ℕ → Row → Type 0)
-    (asks : Office → Type 0) (next : Office → Office) (path : List ℕ)
+    (refuses : Opening P S → Cause → Type 0) (see : S → S → Result Bool StoreError → Type 0)
+    (writes : List (List ℕ × Row)) (asks : Office → Type 0) (next : Office → Office) (path : List ℕ)
     (held : Option (Kept (PageTrees P) (ProvedKeeper S))) (said : Option Cause) (result : Result (Unit {0}) KeepFault)
     (comes : Part P S → Type 0) where
   -- a call was made of a store
   pub stored_so : (before after : S) (answer : Result Bool StoreError) → comes (AsStore before)
-      → Stores g room asks next before after answer → IsToldAs said answer result
+      → see before after answer → IsToldAs said answer result
       → HoldsFound (FoundAgain p gives after) held
-      → IsPut p g gives refuses room writes asks next path held said result comes
+      → IsPut p g gives refuses see writes asks next path held said result comes
   stored_so before after answer from stores told kept = inr (inl (record {
     before = before;
     after = after;
@@ -134,12 +132,12 @@ module _ {P S : Type 0} (p : PagesGhosts P) (g : Ghosts S) (gives : Opening P S 
 
   -- nothing was opened to put
   pub not_put : (why : Cause) → held ≡ None → IsUnput (NotOpened g comes refuses) path why → IsToldBy said result why
-      → IsPut p g gives refuses room writes asks next path held said result comes
+      → IsPut p g gives refuses see writes asks next path held said result comes
   not_put why none known told = inr (inr (none, record { cause = why; known = known; told = told }))
 
   -- a call was made of a keeper on a connection
   pub put_over : (conn : Held S) → comes (AsWhole conn) → IsPutOver g writes asks next held said result conn
-      → IsPut p g gives refuses room writes asks next path held said result comes
+      → IsPut p g gives refuses see writes asks next path held said result comes
   put_over conn from (inl made) =
       inl
       (made_so g writes asks next held said result (IsAdopted g (λ c. c ≡ conn)) (AdoptedOf g comes)
@@ -156,8 +154,8 @@ module _ {P S : Type 0} (p : PagesGhosts P) (g : Ghosts S) (gives : Opening P S 
   -- what was put by what came of something, was put by what came of where that came from
   pub put_ready : (comes' : Part P S → Type 0) → ((part : Part P S) → comes part → comes' part)
       → (old : Option (Kept (PageTrees P) (ProvedKeeper S))) → IsNotWhole old
-      → IsPut p g gives refuses room writes asks next path held said result comes
-      → IsAskedToPut p g gives refuses room writes asks next old path held said result comes'
+      → IsPut p g gives refuses see writes asks next path held said result comes
+      → IsAskedToPut p g gives refuses see writes asks next old path held said result comes'
   put_ready comes' more old none (inl made) =
       inl
       (made_so g writes asks next held said result (AdoptedOf g comes) (IsReady (AdoptedOf g comes') old)
@@ -193,16 +191,17 @@ module _ {P S : Type 0} (p : PagesGhosts P) (g : Ghosts S) (gives : Opening P S 
       )
 
 module _ {P S : Type 0} (p : PagesGhosts P) (g : Ghosts S) (gives : Opening P S → Part P S → Type 0)
-    (refuses : Opening P S → Cause → Type 0) (room : View → Type 0) (writes : List ℕ → Row → Type 0)
-    (asks : Office → Type 0) (next : Office → Office) (old : Option (Kept (PageTrees P) (ProvedKeeper S)))
+    (refuses : Opening P S → Cause → Type 0) (see : S → S → Result Bool StoreError → Type 0)
+    (writes : List (List ℕ × Row)) (asks : Office → Type 0) (next : Office → Office)
+    (old : Option (Kept (PageTrees P) (ProvedKeeper S)))
     (path : List ℕ) (held : Option (Kept (PageTrees P) (ProvedKeeper S))) (said : Option Cause)
     (result : Result (Unit {0}) KeepFault) where
   -- it was made of the keeper that was ready
   pub asked_whole : (keeper : ProvedKeeper S) → IsReadyOf g gives p path old (Whole keeper)
       → IsPutBy g writes asks next held said result (λ k. k ≡ keeper)
-      → AskedToPut p g gives refuses room writes asks next old path held said result
+      → AskedToPut p g gives refuses see writes asks next old path held said result
   asked_whole keeper ready made =
-      let puts = Misfits g room asks next in
+      let puts = Misfits see in
       let opened = AdoptedOf g (OfFile g gives PutsNothing path old) in
       inl
       (made_of g writes asks next held said result (IsReady (AdoptedOf g (OfFile g gives puts path old)) old) keeper
@@ -213,9 +212,9 @@ module _ {P S : Type 0} (p : PagesGhosts P) (g : Ghosts S) (gives : Opening P S 
 
   -- nothing was ready
   pub asked_unread : (why : Cause) → old ≡ None → held ≡ None → IsUnreadOf g gives refuses path old why
-      → IsToldBy said result why → AskedToPut p g gives refuses room writes asks next old path held said result
+      → IsToldBy said result why → AskedToPut p g gives refuses see writes asks next old path held said result
   asked_unread why was none unread told =
-      let puts = Misfits g room asks next in
+      let puts = Misfits see in
       inr (
         none_held old was,
         inr (
@@ -233,11 +232,11 @@ module _ {P S : Type 0} (p : PagesGhosts P) (g : Ghosts S) (gives : Opening P S 
 
   -- it was made by the trees that were ready
   pub asked_by_trees : (trees : PageTrees P) → IsReadyOf g gives p path old (Trees trees)
-      → IsPutByTrees p g gives refuses room writes asks next trees path held said result
-      → AskedToPut p g gives refuses room writes asks next old path held said result
+      → IsPutByTrees p g gives refuses see writes asks next trees path held said result
+      → AskedToPut p g gives refuses see writes asks next old path held said result
   asked_by_trees trees ready put =
-      let puts = Misfits g room asks next in
-      put_ready p g gives refuses room writes asks next path held said result
+      let puts = Misfits see in
+      put_ready p g gives refuses see writes asks next path held said result
       (Comes g gives puts (λ part. part ≡ AsTrees trees)) (OfFile g gives puts path old)
       (trees_so g gives puts puts (IsFirst gives path old) trees (λ from to h. h)
       (file_so g gives puts path old (ready_trees_come g gives p path old trees ready)))

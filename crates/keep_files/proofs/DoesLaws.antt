@@ -32,7 +32,7 @@ read_fails g takes old new o (Err Failed) quiet why memory = (why refl, quiet)
 read_fails g takes old new o (Err NoMemory) quiet why memory = (memory refl, quiet)
 
 -- why a call that puts failed, and what is told of it
-pub put_fails : {S T : Type 0} (g : Ghosts S) (writes : List ℕ → Row → Type 0) (old new : ProvedKeeper S)
+pub put_fails : {S T : Type 0} (g : Ghosts S) (writes : List (List ℕ × Row)) (old new : ProvedKeeper S)
     (r : Result T KeepFault) → IfErr r (HasCauseOf g writes old.conn new.conn)
     → IfErr r (λ fault. TellsRefusal g writes old.conn new.conn fault old.refused new.refused)
     → IfErr r (PutFails g writes old new)

@@ -14,7 +14,7 @@ use Rattle.sqlite_pool.specs.Stored.{Recovers}
 use Rattle.sqlite_store.specs.declared.store.FileStore.{FileStore}
 use Rattle.sqlite_store.specs.FileStore as store
 use Rattle.sqlite.specs.Files.{image_of}
-use Rattle.keep_files.specs.Files.{FileGives, OfFiles, Shows}
+use Rattle.keep_files.specs.Files.{FileGives, OfClosed, OfFiles, Shows}
 use Rattle.keep_files.specs.Openings.{FromPath, FromPages, FromStore, Part}
 
 -- what is read of a pair of files is what was read of them before
@@ -38,14 +38,14 @@ module _ {D X E : Type 0} (g : Ghosts D) (reaches : List ℕ → Files D → Typ
 
   -- and of those of a store
   pub of_stored : (it : FileStore D g) → (files.log, files.db) ≡ store.files it → (r : Result X E)
-      → IfOk r (λ x. OfFiles g files (part x)) → IfOk r (λ x. FileGives g reaches (FromStore it) (part x))
+      → IfOk r (λ x. OfClosed g files (part x)) → IfOk r (λ x. FileGives g reaches (FromStore it) (part x))
   of_stored it closed (Ok x) h = (files, closed, h)
   of_stored it closed (Err e) h = tt
 
 -- so was what is there
 pub some_of_stored : {D X : Type 0} (g : Ghosts D) (reaches : List ℕ → Files D → Type 0) (files : Files D)
     (part : X → Part (Pool D g) (FileStore D g)) (it : FileStore D g) → (files.log, files.db) ≡ store.files it
-    → (r : Option X) → IfSome r (λ x. OfFiles g files (part x))
+    → (r : Option X) → IfSome r (λ x. OfClosed g files (part x))
     → IfSome r (λ x. FileGives g reaches (FromStore it) (part x))
 some_of_stored g reaches files part it closed (Some x) h = (files, closed, h)
 some_of_stored g reaches files part it closed None h = tt

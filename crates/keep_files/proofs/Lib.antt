@@ -1,7 +1,11 @@
 pub mod DoesLaws
 pub mod FileLaws
+pub mod FoundLaws
+pub mod LeftLaws
+pub mod RefuseLaws
 pub mod NameLaws
 pub mod OriginLaws
+pub mod StoringLaws
 pub mod AskedLaws
 pub mod AnewLaws
 pub mod Moves

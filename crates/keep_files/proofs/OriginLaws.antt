@@ -40,13 +40,16 @@ adopted_so g comes comes' keeper more h = record {
   roomy = h.roomy;
   why = h.why;
   told = h.told;
+  quiet = h.quiet;
   stands = h.stands;
+  made = h.made;
   left = h.left;
   there = h.there;
   ours = h.ours;
-  second = h.second;
+  wrote = h.wrote;
   rest = h.rest;
   kept = h.kept;
+  leaves = h.leaves;
   crash = h.crash;
 }
 
@@ -60,6 +63,9 @@ lacks_so g comes comes' cause more h = record {
   keeper = h.keeper;
   unmade = h.unmade;
   why = h.why;
+  kept = h.kept;
+  leaves = h.leaves;
+  crash = h.crash;
 }
 
 module _ {S : Type 0} (g : Ghosts S) (comes : Held S → Type 0) (conn : Held S) (from : comes conn) where
@@ -124,13 +130,16 @@ module _ {P S : Type 0} (g : Ghosts S) (gives : Opening P S → Part P S → Typ
         roomy = h.roomy;
         why = h.why;
         told = h.told;
+        quiet = h.quiet;
         stands = h.stands;
+        made = h.made;
         left = h.left;
         there = h.there;
         ours = h.ours;
-        second = h.second;
+        wrote = h.wrote;
         rest = h.rest;
         kept = h.kept;
+        leaves = h.leaves;
         crash = h.crash;
       })
 

@@ -1,14 +1,10 @@
 -- How a history that all begins anew with is put into a file.
 use Rattle.std.specs.Prelude.{◌≡◌, ◌⊎◌, ℕ, Bool, true, false, List, Option, None, Result, Ok, Err, IsOk}
-use Rattle.sqlite_trees.specs.View.{View}
 use Rattle.sqlite_trees.specs.declared.store.Store.{Ghosts}
 use Rattle.sqlite_trees.specs.declared.error.StoreError.{StoreError}
 use Rattle.sqlite_pages.specs.declared.pages.Pages.{Ghosts as PagesGhosts}
 use Rattle.keep_office.specs.declared.kept.KeepFault.{KeepFault}
-use Rattle.keep_office.specs.Office.{Office}
-use Rattle.keep_tables.specs.Steps.{FitsAny}
 use Rattle.keep_trees.specs.declared.page_trees.PageTrees.{PageTrees}
-use Rattle.keep_puts.specs.Stores.{Stores}
 use Rattle.keep_database.specs.declared.proved.ProvedKeeper.{ProvedKeeper}
 use Rattle.keep_files.specs.declared.cause.Cause.{Cause}
 use Rattle.keep_files.specs.declared.cause.Cause.TheVariants.{NotOurs}
@@ -41,13 +37,13 @@ abbrev pub IsForeign : {P S : Type 0} → (Opening P S → Type 0) → (Part P S
 IsForeign foreign comes opening = IsOpeningOf comes opening × foreign opening
 
 module _ {P S : Type 0} (p : PagesGhosts P) (g : Ghosts S) (gives : Opening P S → Part P S → Type 0)
-    (refuses : Opening P S → Cause → Type 0) (foreign : Opening P S → Type 0) (room : View → Type 0)
-    (next : Office → Office) where
+    (refuses : Opening P S → Cause → Type 0) (foreign : Opening P S → Type 0)
+    (see : S → S → Result Bool StoreError → Type 0) where
   -- it was put into a store that came as said; or no store could be opened, for a cause, and nothing is held
   abbrev pub IsAskedAnew : List ℕ → Option (Kept (PageTrees P) (ProvedKeeper S)) → Option Cause →
       Result (Unit {0}) KeepFault → (Part P S → Type 0) → Type 0
   IsAskedAnew path held said result comes =
-      IsPutAnew (λ s. comes (AsStore s)) (FoundAgain p gives) (Stores g room FitsAny next) held said result
+      IsPutAnew (λ s. comes (AsStore s)) (FoundAgain p gives) see held said result
       ⊎ ((held ≡ None) × WasUnopened (IsNotAnew (NotOpened g comes refuses) path (IsForeign foreign comes)) said result)
 
   -- it came of trees

@@ -2,25 +2,24 @@
 use Rattle.std.specs.Prelude.{◌≡◌, ◌⊎◌, ℕ, Bool, true, false, List, Option, Some, None, Result, Ok, Err, IsOk}
 use Rattle.std.specs.Prelude.{IsSomeAnd}
 use Rattle.sqlite_value.specs.Order.{Row}
-use Rattle.sqlite_trees.specs.View.{View}
+use Rattle.sqlite_trees.specs.Tree.{Trees as Contents}
 use Rattle.sqlite_trees.specs.declared.store.Store.{Ghosts}
 use Rattle.sqlite_trees.specs.declared.error.StoreError.{StoreError}
 use Rattle.sqlite_trees.specs.declared.error.StoreError.TheVariants.{OutOfMemory, Io, Corrupt, Full, Broken, Unstorable}
 use Rattle.sqlite_pages.specs.declared.pages.Pages.{Ghosts as PagesGhosts}
 use Rattle.sqlite.specs.Held.{Held, state}
-use Rattle.sqlite.specs.State.{State}
+use Rattle.sqlite.specs.State.{State, HasCleanDisk}
 use Rattle.keep_office.specs.declared.kept.KeepFault.{KeepFault}
 use Rattle.keep_office.specs.declared.kept.KeepFault.TheVariants.{Failed, NoMemory}
 use Rattle.keep_office.specs.Office.{Office}
 use Rattle.keep_tables.specs.Steps.{FitsAny}
 use Rattle.keep_trees.specs.declared.page_trees.PageTrees.{PageTrees}
-use Rattle.keep_puts.specs.Stores.{Stores}
 use Rattle.keep_database.specs.declared.proved.ProvedKeeper.{ProvedKeeper}
 use Rattle.keep_files.specs.declared.cause.Cause.{Cause}
 use Rattle.keep_files.specs.declared.kept.Kept.{Kept}
 use Rattle.keep_files.specs.declared.kept.Kept.TheVariants.{Trees, Whole}
 use Rattle.keep_files.specs.Causes.{cause_in_store}
-use Rattle.keep_files.specs.Does.{Does, PutFails, ReadFails}
+use Rattle.keep_files.specs.Does.{Does, PutFails, PutsRun, ReadFails}
 use Rattle.keep_files.specs.Looks.{Looks}
 use Rattle.keep_files.specs.Openings.{Opening, Part, AsTrees, AsStore, IsAdopted, LacksTables, NotOpened}
 use Rattle.keep_files.specs.Openings.{WasUnopened, IsUnread, IsUnput}
@@ -59,15 +58,16 @@ IsHeld (Err Failed) held after = held ≡ None
 abbrev pub SaysOf : {A W : Type 0} → (W → Cause → Type 0) → W → Option Cause → Result A KeepFault → Type 0
 SaysOf why of said result = result ≡ Err Failed → IsSomeAnd said (why of)
 
--- a call was made of a keeper
+-- a call was made of a keeper, and of what it was before and after this holds
 pub record IsMade {T K A : Type 0} (may : K → Type 0) (why : Kept T K → Cause → Type 0) (view : K → State)
-    (cause : K → K → Office → KeepFault → Type 0) (writes : Bool) (asks : Office → Type 0)
+    (cause : K → K → Office → KeepFault → Type 0) (such : K → K → Type 0) (writes : Bool) (asks : Office → Type 0)
     (gives : Office → A → Type 0) (next : Office → Office) (held : Option (Kept T K))
     (said : Option Cause) (result : Result A KeepFault) : Type 0 where
   pub before : K
   pub after : K
   pub ready : may before
   pub does : Does (cause before after) writes asks gives next (view before) (view after) result
+  pub shown : such before after
   pub kept : IsHeld result held (Whole after)
   pub says : SaysOf why (Whole after) said result
 
@@ -84,16 +84,19 @@ pub record IsLooked {T K A : Type 0} (may : T → Type 0) (why : Kept T K → Ca
 
 module _ {P S A : Type 0} (p : PagesGhosts P) (g : Ghosts S) (gives : Opening P S → Part P S → Type 0)
     (refuses : Opening P S → Cause → Type 0) (takes : Office → Type 0) (answers : Office → A → Type 0)
+    (shows : Held S → Result A KeepFault → Type 0) (tells : Contents → Result A KeepFault → Type 0)
     (old : Option (Kept (PageTrees P) (ProvedKeeper S))) (path : List ℕ)
     (held : Option (Kept (PageTrees P) (ProvedKeeper S))) (said : Option Cause) (result : Result A KeepFault) where
-  -- a call that reads was made of trees or of a keeper that came as said; or nothing was held and nothing could be
-  -- opened, for a cause
+  -- a call that reads was made of trees, whose rows tell what is answered, or of a keeper, whose rows show it; they
+  -- came as said; or nothing was held and nothing could be opened, for a cause
   abbrev pub IsRead : (Part P S → Type 0) → Type 0
   IsRead comes =
-      IsLooked (λ t. IsReadyToRead (FoundOf p comes) (AdoptedOf g comes) old (Trees t)) (IsWhyOf g) (Looks p answers)
-      held said result
+      IsLooked (λ t. IsReadyToRead (FoundOf p comes) (AdoptedOf g comes) old (Trees t)) (IsWhyOf g)
+      (Looks p answers tells) held said result
       ⊎ (IsMade (λ k. IsReadyToRead (FoundOf p comes) (AdoptedOf g comes) old (Whole k)) (IsWhyOf g)
-      (λ k. state g k.conn) (λ k l. ReadFails g takes k l) false FitsAny answers (λ o. o) held said result
+      (λ k. state g k.conn) (λ k l. ReadFails g takes k l)
+      (λ k l. HasCleanDisk (state g l.conn) → shows k.conn result) false FitsAny answers (λ o. o) held said
+      result
       ⊎ ((old ≡ None) × (held ≡ None) × WasUnopened (IsUnread (NotOpened g comes refuses) path) said result))
 
   -- they came of the file at the path, or are what was held of it
@@ -153,17 +156,17 @@ pub record IsStored {T K X : Type 0} (comes : X → Type 0) (again : X → T →
   pub kept : HoldsFound (again after) held
 
 -- a put that was not done does not fit the store
-abbrev pub Misfits : {S : Type 0} → Ghosts S → (View → Type 0) → (Office → Type 0) → (Office → Office) → S → S → Type 0
-Misfits g room asks next old new = Stores g room asks next old new (Ok false)
+abbrev pub Misfits : {S : Type 0} → (S → S → Result Bool StoreError → Type 0) → S → S → Type 0
+Misfits see old new = see old new (Ok false)
 
-module _ {P S : Type 0} (g : Ghosts S) (writes : List ℕ → Row → Type 0) (asks : Office → Type 0)
+module _ {P S : Type 0} (g : Ghosts S) (writes : List (List ℕ × Row)) (asks : Office → Type 0)
     (next : Office → Office) (held : Option (Kept (PageTrees P) (ProvedKeeper S))) (said : Option Cause)
     (result : Result (Unit {0}) KeepFault) where
-  -- a call that puts was made of a keeper
+  -- a call that puts was made of a keeper, which ran its texts
   abbrev pub IsPutBy : (ProvedKeeper S → Type 0) → Type 0
   IsPutBy may =
-      IsMade may (IsWhyOf g) (λ k. state g k.conn) (λ k l _. PutFails g writes k l) true asks (λ o u. Unit {0}) next
-      held said result
+      IsMade may (IsWhyOf g) (λ k. state g k.conn) (λ k l _. PutFails g writes k l)
+      (λ k l. PutsRun g writes k l result) true asks (λ o u. Unit {0}) next held said result
 
   -- it was made of a keeper on a connection; or that lacks its tables, and nothing is held
   abbrev pub IsPutOver : Held S → Type 0
@@ -172,14 +175,14 @@ module _ {P S : Type 0} (g : Ghosts S) (writes : List ℕ → Row → Type 0) (a
       ⊎ ((held ≡ None) × WasUnopened (LacksTables g (λ from. from ≡ conn)) said result)
 
 module _ {P S : Type 0} (p : PagesGhosts P) (g : Ghosts S) (gives : Opening P S → Part P S → Type 0)
-    (refuses : Opening P S → Cause → Type 0) (room : View → Type 0) (writes : List ℕ → Row → Type 0)
-    (asks : Office → Type 0) (next : Office → Office) where
+    (refuses : Opening P S → Cause → Type 0) (see : S → S → Result Bool StoreError → Type 0)
+    (writes : List (List ℕ × Row)) (asks : Office → Type 0) (next : Office → Office) where
   -- a call that puts was made of a store that came as said; or nothing could be opened, for a cause, and nothing is
   -- held
   abbrev pub IsPutIn : List ℕ → Option (Kept (PageTrees P) (ProvedKeeper S)) → Option Cause →
       Result (Unit {0}) KeepFault → (Part P S → Type 0) → Type 0
   IsPutIn path held said result comes =
-      IsStored (λ s. comes (AsStore s)) (FoundAgain p gives) (Stores g room asks next) held said result
+      IsStored (λ s. comes (AsStore s)) (FoundAgain p gives) see held said result
       ⊎ ((held ≡ None) × WasUnopened (IsUnput (NotOpened g comes refuses) path) said result)
 
   -- the same, or it was made of a keeper that came as said
@@ -192,7 +195,7 @@ module _ {P S : Type 0} (p : PagesGhosts P) (g : Ghosts S) (gives : Opening P S 
   abbrev pub IsPutByTrees : PageTrees P → List ℕ → Option (Kept (PageTrees P) (ProvedKeeper S)) → Option Cause →
       Result (Unit {0}) KeepFault → Type 0
   IsPutByTrees trees path held said result =
-      IsPut path held said result (Comes g gives (Misfits g room asks next) (λ part. part ≡ AsTrees trees))
+      IsPut path held said result (Comes g gives (Misfits see) (λ part. part ≡ AsTrees trees))
 
   -- it was made of the keeper that is held; or none was, and it was made of a store or of a keeper that came as said,
   -- or none could be opened, for a cause
@@ -207,4 +210,4 @@ module _ {P S : Type 0} (p : PagesGhosts P) (g : Ghosts S) (gives : Opening P S 
   abbrev pub AskedToPut : Option (Kept (PageTrees P) (ProvedKeeper S)) → List ℕ →
       Option (Kept (PageTrees P) (ProvedKeeper S)) → Option Cause → Result (Unit {0}) KeepFault → Type 0
   AskedToPut old path held said result =
-      IsAskedToPut old path held said result (OfFile g gives (Misfits g room asks next) path old)
+      IsAskedToPut old path held said result (OfFile g gives (Misfits see) path old)

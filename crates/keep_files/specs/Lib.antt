@@ -6,8 +6,10 @@ pub mod Does
 pub mod Looks
 pub mod Openings
 pub mod Origins
+pub mod Storing
 pub mod Asked
 pub mod Anew
 pub mod Closes
 pub mod Files
+pub mod Refusals
 pub mod Says

@@ -1,11 +1,6 @@
 -- What is opened for a call of a file, and why it was not.
-use Rattle.std.specs.Prelude.{◌≡◌, ◌≢◌, ◌⊎◌, ◌↔◌, ◌&&◌, ◌++◌, codes, false, ℕ, List, IsTrue}
+use Rattle.std.specs.Prelude.{◌≡◌, ◌≢◌, ◌⊎◌, ◌↔◌, ◌++◌, codes, ℕ, List, IsTrue}
 use Rattle.std.specs.Prelude.{Option, Some, None, Result, Ok, Err}
-use Rattle.sqlite_disk.specs.declared.Disk.{Ghosts}
-use Rattle.sqlite_disk.specs.declared.Files.{Files}
-use Rattle.sqlite.specs.Files.{IsCleanLeft, FailsToOpenFiles, LeavesFiles}
-use Rattle.sqlite.specs.declared.file.Leftover.{Leftover}
-use Rattle.sqlite.specs.declared.error.Error.{Error}
 use Rattle.sqlite.specs.declared.error.Error.TheVariants.{SqliteFailure}
 use Rattle.sqlite.specs.declared.error.ErrorCode.TheVariants.{OutOfMemory}
 use Rattle.sqlite.specs.Held.{Held, state}
@@ -15,17 +10,17 @@ use Rattle.sqlite_trees.specs.declared.store.Store.{Ghosts as StoreGhosts}
 use Rattle.keep_office.specs.declared.kept.KeepFault.{KeepFault}
 use Rattle.keep_office.specs.declared.kept.KeepFault.TheVariants.{Failed, NoMemory}
 use Rattle.keep_office.specs.Office.{Office}
-use Rattle.keep_tables.specs.Stands.{StandsForOffice}
-use Rattle.keep_writes.specs.Growth.{CommitsSame, CommitsVersion, HasVersion, IsAtRest, IsOurs, LacksVersion}
+use Rattle.keep_tables.specs.Stands.{HasOffice, StandsForOffice}
+use Rattle.keep_writes.specs.Growth.{CommitsSame, HasVersion, IsAtRest, IsOurs, LacksVersion}
 use Rattle.keep_writes.specs.Objects.{MayBeMade}
-use Rattle.keep_writes.specs.Unmade.{IsUnmade, IsUnmadeBy}
+use Rattle.keep_writes.specs.Unmade.{CommitsTables, IsUnmade, IsUnmadeBy, LeavesTables}
 use Rattle.keep_trees.specs.declared.page_trees.PageTrees.{PageTrees}
 use Rattle.keep_database.specs.declared.proved.ProvedKeeper.{ProvedKeeper}
 use Rattle.keep_files.specs.declared.cause.Cause.{Cause}
-use Rattle.keep_files.specs.declared.cause.Cause.TheVariants.{Unopened, DiskFailed, NotOurs, Memory}
+use Rattle.keep_files.specs.declared.cause.Cause.TheVariants.{Unopened, NotOurs, Memory}
 use Rattle.keep_files.specs.declared.kept.Kept.{Kept}
 use Rattle.keep_files.specs.declared.kept.Kept.TheVariants.{Trees, Whole}
-use Rattle.keep_files.specs.Causes.{IsCauseOf, opening_cause}
+use Rattle.keep_files.specs.Causes.{opening_cause}
 
 -- what is opened: the file at a path, that of some pages, or that of a store
 pub data Opening (P S : Type 0) : Type 0 where
@@ -55,28 +50,35 @@ IfWhole so (Trees trees) = Unit {0}
 IfWhole so (Whole whole) = so
 
 -- a keeper was adopted on a connection that came as said: it stands for the office that this stood for, and a database
--- that has the table of the version, or is not to be made, is as it was; its tables are made only where it is ours, and
--- nothing is under way then, or they are left for a cause that the error tells, which is not want of memory
+-- that has the table of the version, or is not to be made, is as it was; its tables are made only where it is ours, by
+-- the whole making of what was committed, and nothing is under way then; or they are left for a cause that the error
+-- tells, which is not want of memory; a crash leaves what was committed, or what the whole making made of that
 pub record IsAdopted {S : Type 0} (g : StoreGhosts S) (comes : Held S → Type 0) (keeper : ProvedKeeper S) : Type 0 where
   pub conn : Held S
   pub from : comes conn
   pub roomy : keeper.unmade ≢ Some NoMemory
   pub why : HasCleanDisk (state g keeper.conn) → IsUnmadeBy g conn keeper.conn keeper.refused
   pub told : keeper.refused ≡ None → keeper.unmade ≡ None
+  pub quiet : keeper.unmade ≡ None → keeper.refused ≡ None
   pub stands : HasCleanDisk (state g keeper.conn) → IsTrue (state g keeper.conn).is_open → (o : Office)
       → StandsForOffice (state g conn).committed o → StandsForOffice (state g keeper.conn).committed o
+  pub made : HasCleanDisk (state g keeper.conn) → IsTrue (state g keeper.conn).is_open → keeper.unmade ≡ None
+      → (o : Office) → StandsForOffice (state g conn).committed o → HasOffice (state g keeper.conn).committed o
   pub left : HasCleanDisk (state g keeper.conn) → ¬ MayBeMade (state g conn).committed →
       KeepsCommit (state g conn) (state g keeper.conn)
   pub there : HasCleanDisk (state g keeper.conn) → HasVersion (state g conn).committed →
       KeepsCommit (state g conn) (state g keeper.conn)
   pub ours : HasCleanDisk (state g keeper.conn) → keeper.unmade ≡ None → IsOurs (state g conn).committed
-  pub second : HasCleanDisk (state g keeper.conn) → keeper.unmade ≡ None → LacksVersion (state g conn).committed →
-      CommitsVersion g keeper.conn
+  pub wrote : HasCleanDisk (state g keeper.conn) → keeper.unmade ≡ None → LacksVersion (state g conn).committed →
+      CommitsTables g conn keeper.conn
   pub rest : HasCleanDisk (state g keeper.conn) → keeper.unmade ≡ None → IsAtRest (state g keeper.conn)
-  pub kept : HasCleanDisk (state g keeper.conn) → keeper.unmade ≢ None → KeepsCommit (state g conn) (state g keeper.conn)
+  pub kept : HasCleanDisk (state g keeper.conn) → keeper.unmade ≢ None →
+      KeepsCommit (state g conn) (state g keeper.conn)
+  pub leaves : Survives (state g conn) (state g keeper.conn) (LeavesTables g conn)
   pub crash : Survives (state g conn) (state g keeper.conn) (CommitsSame (state g conn).committed)
 
--- a keeper was adopted on a connection that came as said, and in that there was no memory to make its tables
+-- a keeper was adopted on a connection that came as said, and in that there was no memory to make its tables: what was
+-- committed stays, and a crash leaves that, or what the whole making made of it
 pub record LacksTables {S : Type 0} (g : StoreGhosts S) (comes : Held S → Type 0) (cause : Cause) : Type 0 where
   pub memory : cause ≡ Memory
   pub conn : Held S
@@ -84,6 +86,9 @@ pub record LacksTables {S : Type 0} (g : StoreGhosts S) (comes : Held S → Type
   pub keeper : ProvedKeeper S
   pub unmade : keeper.unmade ≡ Some NoMemory
   pub why : HasCleanDisk (state g keeper.conn) → IsUnmade g conn keeper.conn (SqliteFailure OutOfMemory)
+  pub kept : HasCleanDisk (state g keeper.conn) → KeepsCommit (state g conn) (state g keeper.conn)
+  pub leaves : Survives (state g conn) (state g keeper.conn) (LeavesTables g conn)
+  pub crash : Survives (state g conn) (state g keeper.conn) (CommitsSame (state g conn).committed)
 
 -- what is opened, other than a path, came as said
 abbrev pub IsOpeningOf : {P S : Type 0} → (Part P S → Type 0) → Opening P S → Type 0
@@ -138,36 +143,3 @@ NamesNoFile path = (path ≡ codes ":memory:") ⊎ ((rest : List ℕ) × (path �
 abbrev pub IsOfOpening : List ℕ → Cause → Type 0
 IsOfOpening path cause =
     ((error : OpenError) × (cause ≡ opening_cause error)) ⊎ (NamesNoFile path × (cause ≡ Unopened))
-
--- a database refused to open files with an error, which has that cause, and harmed nothing
-pub record IsRefusedBy {D : Type 0} (g : Ghosts D) (files : Files D) (cause : Cause) : Type 0 where
-  pub error : Error
-  pub left : Leftover D g
-  pub fails : IsCleanLeft left → FailsToOpenFiles files left error
-  pub harmless : IsCleanLeft left → LeavesFiles files left
-  pub names : IsCauseOf cause error
-
--- an earlier failure left files not to be used
-abbrev pub AreSpent : {D : Type 0} (g : Ghosts D) → Files D → Cause → Type 0
-AreSpent g files cause = ((g.is_usable files.log && g.is_usable files.db) ≡ false) × (cause ≡ DiskFailed)
-
--- files were refused for a cause: they are not to be used, or a database refused to open them
-pub record AreRefused {D : Type 0} (g : Ghosts D) (cause : Cause) : Type 0 where
-  pub files : Files D
-  pub why : AreSpent g files cause ⊎ IsRefusedBy g files cause
-
-module _ {D : Type 0} (g : Ghosts D) where
-  -- why files are not opened: no number is drawn, or they are refused
-  abbrev pub RefusesFiles : (Cause → Type 0) → Cause → Type 0
-  RefusesFiles draws cause = draws cause ⊎ AreRefused g cause
-
-  -- why the file at a path is not opened: the disk gives none, or they are not opened
-  abbrev pub RefusesPath : (List ℕ → Cause → Type 0) → (Cause → Type 0) → List ℕ → Cause → Type 0
-  RefusesPath gives draws path cause = gives path cause ⊎ RefusesFiles draws cause
-
-  -- why a store of files refuses what is opened
-  abbrev pub FileRefuses : {P S : Type 0} → (List ℕ → Cause → Type 0) → (Cause → Type 0) → Opening P S → Cause →
-      Type 0
-  FileRefuses gives draws (FromPath path) cause = RefusesPath gives draws path cause
-  FileRefuses gives draws (FromPages pages) cause = RefusesFiles draws cause
-  FileRefuses gives draws (FromStore store) cause = RefusesFiles draws cause

@@ -6,6 +6,7 @@ ghost use Rattle.keep_files.specs.Causes.{IsSaid};
 ghost use Rattle.keep_files.specs.Closes.{given_up};
 ghost use Rattle.keep_files.specs.Openings.{AsWhole, IsAdopted, LacksTables};
 ghost use Rattle.keep_files.specs.Origins.{FoundAgain, OfFile, PutsNothing, TriesPath, WasAsked};
+ghost use Rattle.keep_files.specs.Storing.{PutsInto};
 
 mod anew;
 
@@ -68,6 +69,7 @@ impl<S: Opens<P>, P: Pages + Drop> Database<S, P> {
     pub(crate) fn read<C: Reading + Drop>(&mut self, call: C) -> Result<C::Answer, KeepFault>
         ensures answers { IfOk result C.answers }
         ensures does { AskedToRead P.Pages S.Store S.Opens.gives S.Opens.refuses (C.takes call) (C.gives call)
+            (C.shows S.Store call) (C.tells call)
             self.old.kept (string_bytes self.old.path) self.new.kept self.new.cause result }
         ensures tried { TriesPath S.Store S.Opens.gives S.Opens.refuses (string_bytes self.old.path) self.old.kept }
         ensures said { IsSaid result self.old.cause self.new.cause }
@@ -94,7 +96,8 @@ impl<S: Opens<P>, P: Pages + Drop> Database<S, P> {
     pub(crate) fn put<C: Putting + Drop>(&mut self, call: C) -> Result<(), KeepFault>
         requires { C.fits call }
         ensures does { AskedToPut P.Pages S.Store S.Opens.gives S.Opens.refuses
-            (C.room call) (C.writes call) (C.asks call) (C.next call)
+            (PutsInto S.Store (C.room call) (C.asks call) (C.next call) (C.finds call) (C.makes call))
+            (C.writes call) (C.asks call) (C.next call)
             self.old.kept (string_bytes self.old.path) self.new.kept self.new.cause result }
         ensures tried { TriesPath S.Store S.Opens.gives S.Opens.refuses (string_bytes self.old.path) self.old.kept }
         ensures said { IsSaid result self.old.cause self.new.cause }
@@ -152,7 +155,8 @@ impl<S: Opens<P>, P: Pages + Drop> Database<S, P> {
         requires fits { C.fits call }
         requires none { self.old.kept ≡ None }
         ensures does { IsPutByTrees P.Pages S.Store S.Opens.gives S.Opens.refuses
-            (C.room call) (C.writes call) (C.asks call) (C.next call)
+            (PutsInto S.Store (C.room call) (C.asks call) (C.next call) (C.finds call) (C.makes call))
+            (C.writes call) (C.asks call) (C.next call)
             trees (string_bytes self.old.path) self.new.kept self.new.cause result }
         ensures said { IsSaid result self.old.cause self.new.cause }
         ensures stays { self.new.path ≡ self.old.path }

@@ -7,11 +7,19 @@ ghost use Rattle.keep_office.specs.Office.{vehicle_rows_between};
 ghost use Rattle.keep_office.specs.Kept.{IsDayPut, IsPastPut, IsLater, HasNoDays, with_day, with_past, with_tariff_of};
 ghost use Rattle.keep_office.specs.Calls.{CountsFaults, IfTold};
 ghost use Rattle.keep_tables.specs.Steps.{FitsAny};
-ghost use Rattle.keep_writes.specs.Writes.{WritesDay, WritesPast, WritesTariff};
+ghost use Rattle.keep_writes.specs.Writes.{day_texts, past_texts, tariff_texts};
 ghost use Rattle.keep_puts.specs.Room.{RoomForDay, RoomForPast, RoomForTariff};
+ghost use Rattle.keep_trees.specs.Finds.{IsHeldAmount};
+ghost use Rattle.keep_trees.specs.Tells.{AreTold, IsToldDay, IsToldLast, IsToldPast};
+ghost use Rattle.keep_trees.specs.Tolls.{AreToldOf, AreToldRows};
+ghost use Rattle.keep_puts.specs.Steps.{IsFreshDay, IsFreshPast};
+ghost use Rattle.keep_puts.specs.Puts.{PutsDay, PutsPast, PutsTariff};
+ghost use Rattle.keep_database.specs.Shows.{ShowsDay, ShowsLast, ShowsPast, ShowsRows, ShowsSpent, ShowsTariffs};
+ghost use Rattle.keep_database.specs.Shows.{ShowsVehicleRows};
 ghost use Rattle.keep_files.specs.Asked.{AskedToRead, AskedToPut};
 ghost use Rattle.keep_files.specs.Origins.{TriesPath};
 ghost use Rattle.keep_files.specs.Says.{Says};
+ghost use Rattle.keep_files.specs.Storing.{FindsAny, PutsInto};
 
 use crate::at_path::{KeptPages, KeptStore};
 use crate::kept_file::SqliteKeeper;
@@ -46,6 +54,7 @@ impl Keeper for SqliteKeeper {
         ensures does { AskedToRead ⟦<KeptPages as Pages>⟧ ⟦<KeptStore as Store>⟧
             ⟦<KeptStore as Opens<KeptPages>>⟧.gives ⟦<KeptStore as Opens<KeptPages>>⟧.refuses
             (λ o. IsSome o.past) (λ o last. last ≡ last_day_of o)
+            (λ old r. IfOk r (ShowsLast ⟦<KeptStore as Store>⟧ old)) (λ t r. IfOk r (IsToldLast (t 0) (t 3)))
             self.old.in_file.in_file.database.kept (string_bytes self.old.in_file.in_file.database.path)
             self.new.in_file.in_file.database.kept self.new.in_file.in_file.database.cause result }
     {
@@ -61,6 +70,7 @@ impl Keeper for SqliteKeeper {
         ensures does { AskedToRead ⟦<KeptPages as Pages>⟧ ⟦<KeptStore as Store>⟧
             ⟦<KeptStore as Opens<KeptPages>>⟧.gives ⟦<KeptStore as Opens<KeptPages>>⟧.refuses
             (λ o. IsSome (record_of o day)) (λ o kept. kept ≡ record_of o day)
+            (λ old r. IfOk r (ShowsDay ⟦<KeptStore as Store>⟧ day old)) (λ t r. IfOk r (IsToldDay (t 0) (t 4) day))
             self.old.in_file.in_file.database.kept (string_bytes self.old.in_file.in_file.database.path)
             self.new.in_file.in_file.database.kept self.new.in_file.in_file.database.cause result }
     {
@@ -77,6 +87,7 @@ impl Keeper for SqliteKeeper {
         ensures does { AskedToRead ⟦<KeptPages as Pages>⟧ ⟦<KeptStore as Store>⟧
             ⟦<KeptStore as Opens<KeptPages>>⟧.gives ⟦<KeptStore as Opens<KeptPages>>⟧.refuses
             (λ o. IsSome o.past) (λ o past. past ≡ o.past)
+            (λ old r. IfOk r (ShowsPast ⟦<KeptStore as Store>⟧ old)) (λ t r. IfOk r (IsToldPast (t 3)))
             self.old.in_file.in_file.database.kept (string_bytes self.old.in_file.in_file.database.path)
             self.new.in_file.in_file.database.kept self.new.in_file.in_file.database.cause result }
     {
@@ -92,6 +103,8 @@ impl Keeper for SqliteKeeper {
         ensures does { AskedToRead ⟦<KeptPages as Pages>⟧ ⟦<KeptStore as Store>⟧
             ⟦<KeptStore as Opens<KeptPages>>⟧.gives ⟦<KeptStore as Opens<KeptPages>>⟧.refuses
             (λ _. ⊥) (λ o tolls. tolls ≡ paid o.rows day vid xway)
+            (λ old r. IfOk r (ShowsSpent ⟦<KeptStore as Store>⟧ day vid xway old))
+            (λ t r. IfOk r (IsHeldAmount (t 1) (t 2) day vid xway))
             self.old.in_file.in_file.database.kept (string_bytes self.old.in_file.in_file.database.path)
             self.new.in_file.in_file.database.kept self.new.in_file.in_file.database.cause result }
     {
@@ -108,6 +121,8 @@ impl Keeper for SqliteKeeper {
         ensures does { AskedToRead ⟦<KeptPages as Pages>⟧ ⟦<KeptStore as Store>⟧
             ⟦<KeptStore as Opens<KeptPages>>⟧.gives ⟦<KeptStore as Opens<KeptPages>>⟧.refuses
             (λ o. rows_between o from to ≢ []) (λ o rows. rows.items ≡ rows_between o from to)
+            (λ old r. IfOk r (λ rows. ShowsRows ⟦<KeptStore as Store>⟧ from to old rows.items))
+            (λ t r. IfOk r (λ rows. AreToldRows (t 1) (t 2) from to rows.items))
             self.old.in_file.in_file.database.kept (string_bytes self.old.in_file.in_file.database.path)
             self.new.in_file.in_file.database.kept self.new.in_file.in_file.database.cause result }
     {
@@ -125,6 +140,8 @@ impl Keeper for SqliteKeeper {
             ⟦<KeptStore as Opens<KeptPages>>⟧.gives ⟦<KeptStore as Opens<KeptPages>>⟧.refuses
             (λ o. vehicle_rows_between o vid from to ≢ [])
             (λ o rows. rows.items ≡ vehicle_rows_between o vid from to)
+            (λ old r. IfOk r (λ rows. ShowsVehicleRows ⟦<KeptStore as Store>⟧ vid from to old rows.items))
+            (λ t r. IfOk r (λ rows. AreToldOf (t 1) (t 2) vid from to rows.items))
             self.old.in_file.in_file.database.kept (string_bytes self.old.in_file.in_file.database.path)
             self.new.in_file.in_file.database.kept self.new.in_file.in_file.database.cause result }
     {
@@ -140,6 +157,7 @@ impl Keeper for SqliteKeeper {
         ensures does { AskedToRead ⟦<KeptPages as Pages>⟧ ⟦<KeptStore as Store>⟧
             ⟦<KeptStore as Opens<KeptPages>>⟧.gives ⟦<KeptStore as Opens<KeptPages>>⟧.refuses
             (λ o. o.tariffs ≢ []) (λ o tariffs. tariffs ≡ o.tariffs)
+            (λ old r. IfOk r (ShowsTariffs ⟦<KeptStore as Store>⟧ old)) (λ t r. IfOk r (AreTold (t 5)))
             self.old.in_file.in_file.database.kept (string_bytes self.old.in_file.in_file.database.path)
             self.new.in_file.in_file.database.kept self.new.in_file.in_file.database.cause result }
     {
@@ -156,8 +174,10 @@ impl Keeper for SqliteKeeper {
         ensures said { Says result self.old.in_file.in_file.database self.new.in_file.in_file.database }
         ensures does { AskedToPut ⟦<KeptPages as Pages>⟧ ⟦<KeptStore as Store>⟧
             ⟦<KeptStore as Opens<KeptPages>>⟧.gives ⟦<KeptStore as Opens<KeptPages>>⟧.refuses
-            (RoomForDay kept.now rows.now) (WritesDay kept.now rows.now)
+            (PutsInto ⟦<KeptStore as Store>⟧ (RoomForDay kept.now rows.now)
             (IsLater kept.now.day) (with_day kept.now rows.now)
+            (IsFreshDay kept.now rows.now) (PutsDay kept.now rows.now))
+            (day_texts kept.now rows.now) (IsLater kept.now.day) (with_day kept.now rows.now)
             self.old.in_file.in_file.database.kept (string_bytes self.old.in_file.in_file.database.path)
             self.new.in_file.in_file.database.kept self.new.in_file.in_file.database.cause result }
     {
@@ -174,8 +194,10 @@ impl Keeper for SqliteKeeper {
         ensures said { Says result self.old.in_file.in_file.database self.new.in_file.in_file.database }
         ensures does { AskedToPut ⟦<KeptPages as Pages>⟧ ⟦<KeptStore as Store>⟧
             ⟦<KeptStore as Opens<KeptPages>>⟧.gives ⟦<KeptStore as Opens<KeptPages>>⟧.refuses
-            (RoomForPast rows.now) (WritesPast kept.now rows.now)
+            (PutsInto ⟦<KeptStore as Store>⟧ (RoomForPast rows.now)
             HasNoDays (with_past kept.now rows.now)
+            (IsFreshPast rows.now) (PutsPast kept.now rows.now))
+            (past_texts kept.now rows.now) HasNoDays (with_past kept.now rows.now)
             self.old.in_file.in_file.database.kept (string_bytes self.old.in_file.in_file.database.path)
             self.new.in_file.in_file.database.kept self.new.in_file.in_file.database.cause result }
     {
@@ -191,8 +213,10 @@ impl Keeper for SqliteKeeper {
         ensures said { Says result self.old.in_file.in_file.database self.new.in_file.in_file.database }
         ensures does { AskedToPut ⟦<KeptPages as Pages>⟧ ⟦<KeptStore as Store>⟧
             ⟦<KeptStore as Opens<KeptPages>>⟧.gives ⟦<KeptStore as Opens<KeptPages>>⟧.refuses
-            RoomForTariff (WritesTariff xway tariff.now)
+            (PutsInto ⟦<KeptStore as Store>⟧ RoomForTariff
             FitsAny (with_tariff_of xway tariff.now)
+            FindsAny (PutsTariff xway tariff.now))
+            (tariff_texts xway tariff.now) FitsAny (with_tariff_of xway tariff.now)
             self.old.in_file.in_file.database.kept (string_bytes self.old.in_file.in_file.database.path)
             self.new.in_file.in_file.database.kept self.new.in_file.in_file.database.cause result }
     {

@@ -5,6 +5,7 @@ ghost use Rattle.keep_files.specs.Asked.{AskedToRead, AskedToPut};
 ghost use Rattle.keep_files.specs.Closes.{IsEnded, IsNotEnded, given_up};
 ghost use Rattle.keep_files.specs.Origins.{TriesPath};
 ghost use Rattle.keep_files.specs.Says.{Says};
+ghost use Rattle.keep_files.specs.Storing.{PutsInto};
 
 mod anew;
 
@@ -86,7 +87,7 @@ impl<D: AtPath> FileKeeper<D> {
         ensures answers { IfOk result C.answers }
         ensures does { AskedToRead ⟦<Pool<D> as Pages>⟧ ⟦<FileStore<D> as Store>⟧
             ⟦<FileStore<D> as Opens<Pool<D>>>⟧.gives ⟦<FileStore<D> as Opens<Pool<D>>>⟧.refuses
-            (C.takes call) (C.gives call)
+            (C.takes call) (C.gives call) (C.shows ⟦<FileStore<D> as Store>⟧ call) (C.tells call)
             self.old.in_file.database.kept (string_bytes self.old.in_file.database.path)
             self.new.in_file.database.kept self.new.in_file.database.cause result }
         ensures tried { TriesPath ⟦<FileStore<D> as Store>⟧ ⟦<FileStore<D> as Opens<Pool<D>>>⟧.gives
@@ -103,8 +104,9 @@ impl<D: AtPath> FileKeeper<D> {
         requires { C.fits call }
         ensures does { AskedToPut ⟦<Pool<D> as Pages>⟧ ⟦<FileStore<D> as Store>⟧
             ⟦<FileStore<D> as Opens<Pool<D>>>⟧.gives ⟦<FileStore<D> as Opens<Pool<D>>>⟧.refuses
-            (C.room call) (C.writes call)
-            (C.asks call) (C.next call)
+            (PutsInto ⟦<FileStore<D> as Store>⟧ (C.room call) (C.asks call) (C.next call)
+            (C.finds call) (C.makes call))
+            (C.writes call) (C.asks call) (C.next call)
             self.old.in_file.database.kept (string_bytes self.old.in_file.database.path)
             self.new.in_file.database.kept self.new.in_file.database.cause result }
         ensures tried { TriesPath ⟦<FileStore<D> as Store>⟧ ⟦<FileStore<D> as Opens<Pool<D>>>⟧.gives

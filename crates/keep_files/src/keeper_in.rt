@@ -5,6 +5,7 @@ ghost use Rattle.keep_files.specs.Asked.{AskedToRead, AskedToPut};
 ghost use Rattle.keep_files.specs.Closes.{given_up};
 ghost use Rattle.keep_files.specs.Origins.{TriesPath};
 ghost use Rattle.keep_files.specs.Says.{Says};
+ghost use Rattle.keep_files.specs.Storing.{PutsInto};
 
 mod anew;
 
@@ -64,7 +65,7 @@ impl<S: Opens<P>, P: Pages + Drop> KeeperIn<S, P> {
     pub fn read<C: Reading + Drop>(&mut self, call: C) -> Result<C::Answer, KeepFault>
         ensures answers { IfOk result C.answers }
         ensures does { AskedToRead P.Pages S.Store S.Opens.gives S.Opens.refuses
-            (C.takes call) (C.gives call)
+            (C.takes call) (C.gives call) (C.shows S.Store call) (C.tells call)
             self.old.database.kept (string_bytes self.old.database.path)
             self.new.database.kept self.new.database.cause result }
         ensures tried { TriesPath S.Store S.Opens.gives S.Opens.refuses
@@ -80,8 +81,8 @@ impl<S: Opens<P>, P: Pages + Drop> KeeperIn<S, P> {
     pub fn put<C: Putting + Drop>(&mut self, call: C) -> Result<(), KeepFault>
         requires { C.fits call }
         ensures does { AskedToPut P.Pages S.Store S.Opens.gives S.Opens.refuses
-            (C.room call) (C.writes call)
-            (C.asks call) (C.next call)
+            (PutsInto S.Store (C.room call) (C.asks call) (C.next call) (C.finds call) (C.makes call))
+            (C.writes call) (C.asks call) (C.next call)
             self.old.database.kept (string_bytes self.old.database.path)
             self.new.database.kept self.new.database.cause result }
         ensures tried { TriesPath S.Store S.Opens.gives S.Opens.refuses

@@ -5,6 +5,7 @@ ghost use Rattle.keep_files.specs.Asked.{AskedToRead, AskedToPut};
 ghost use Rattle.keep_files.specs.Closes.{FailsToEnd, IsEnded, IsNotEnded, given_up};
 ghost use Rattle.keep_files.specs.Origins.{TriesPath};
 ghost use Rattle.keep_files.specs.Says.{Says};
+ghost use Rattle.keep_files.specs.Storing.{PutsInto};
 
 mod anew;
 
@@ -77,7 +78,7 @@ impl SqliteKeeper {
         ensures answers { IfOk result C.answers }
         ensures does { AskedToRead ⟦<KeptPages as Pages>⟧ ⟦<KeptStore as Store>⟧
             ⟦<KeptStore as Opens<KeptPages>>⟧.gives ⟦<KeptStore as Opens<KeptPages>>⟧.refuses
-            (C.takes call) (C.gives call)
+            (C.takes call) (C.gives call) (C.shows ⟦<KeptStore as Store>⟧ call) (C.tells call)
             self.old.in_file.in_file.database.kept (string_bytes self.old.in_file.in_file.database.path)
             self.new.in_file.in_file.database.kept self.new.in_file.in_file.database.cause result }
         ensures tried { TriesPath ⟦<KeptStore as Store>⟧ ⟦<KeptStore as Opens<KeptPages>>⟧.gives
@@ -94,8 +95,9 @@ impl SqliteKeeper {
         requires { C.fits call }
         ensures does { AskedToPut ⟦<KeptPages as Pages>⟧ ⟦<KeptStore as Store>⟧
             ⟦<KeptStore as Opens<KeptPages>>⟧.gives ⟦<KeptStore as Opens<KeptPages>>⟧.refuses
-            (C.room call) (C.writes call)
-            (C.asks call) (C.next call)
+            (PutsInto ⟦<KeptStore as Store>⟧ (C.room call) (C.asks call) (C.next call)
+            (C.finds call) (C.makes call))
+            (C.writes call) (C.asks call) (C.next call)
             self.old.in_file.in_file.database.kept (string_bytes self.old.in_file.in_file.database.path)
             self.new.in_file.in_file.database.kept self.new.in_file.in_file.database.cause result }
         ensures tried { TriesPath ⟦<KeptStore as Store>⟧ ⟦<KeptStore as Opens<KeptPages>>⟧.gives

@@ -1,10 +1,16 @@
 // The trees of an office, as `sqlite_schema` lists them.
+ghost use Rattle.std.specs.Prelude.{◌≡◌};
+ghost use Rattle.sqlite_store.specs.Catalog.{Describes, wanted_of};
+ghost use Rattle.keep_trees.specs.Pages.{our_trees, table_listed};
+
 use sqlite_trees::schema::Object;
 use sqlite_trees::store::Shape;
 use sqlite_value::keys::Order;
 
 /// A table as it is listed.
-fn table<'a>(name: &'a str, sql: &'a str) -> Object<'a> {
+fn table<'a>(name: &'a str, sql: &'a str) -> Object<'a>
+    ensures { wanted_of result ≡ table_listed name.now sql.now }
+{
     Object {
         shape: Shape::Table,
         kind: "table",
@@ -16,7 +22,9 @@ fn table<'a>(name: &'a str, sql: &'a str) -> Object<'a> {
 }
 
 /// The trees of version 2, each at its number.
-pub fn our_objects() -> [Object<'static>; 7] {
+pub fn our_objects() -> [Object<'static>; 7]
+    ensures { Describes our_trees result }
+{
     [
         table(
             "days",

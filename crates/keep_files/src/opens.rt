@@ -56,12 +56,12 @@ pub trait Opens<P: Pages + Drop>: Shuts {
 
 // That files are not found to be exactly ours may always be for want of memory, of which nothing is known.
 impl<D: AtPath> Opens<Pool<D>> for FileStore<D> {
-    ghost use Rattle.keep_files.specs.Openings.{FileRefuses};
+    ghost use Rattle.keep_files.specs.Refusals.{FileRefuses};
     ghost use Rattle.keep_files.specs.Files.{FileGives};
 
     ghost gives = { FileGives D.Disk D.AtPath.reaches };
 
-    ghost refuses = { FileRefuses D.Disk D.AtPath.refuses D.AtPath.undrawn };
+    ghost refuses = { FileRefuses D.Disk D.AtPath.reaches D.AtPath.refuses D.AtPath.undrawn };
 
     ghost foreign = { λ _. Unit {0} };
 

@@ -1,14 +1,18 @@
 // The two files of a database: by their trees where they are exactly ours, or whole.
-ghost use Rattle.std.specs.Prelude.{◌≡◌, IsTrue, IfOk, IfErr, IfSome};
+ghost use Rattle.std.specs.Prelude.{◌≡◌, IsTrue, IfOk, IfErr, IfSome, MatchResult};
+ghost use Rattle.sqlite_wal.specs.PageSize.{bytes_of};
+ghost use Rattle.sqlite_wal.specs.Reads.{AreClean, OnlyReadsBoth};
 ghost use Rattle.sqlite_pages.specs.Calls.{Continues};
 ghost use Rattle.sqlite_pool.specs.Opening.{AreUsable, image};
 ghost use Rattle.sqlite_pool.specs.Pool.{files as files_in, state};
-ghost use Rattle.sqlite_store.specs.Unopened.{AreUsable as MayOpen, files_of};
+ghost use Rattle.sqlite_pool.specs.Stored.{Recovers};
+ghost use Rattle.sqlite_store.specs.Unopened.{AreUsable as MayOpen, files_of, state_of, wanted_by};
 ghost use Rattle.sqlite.specs.Files.{image_of};
+ghost use Rattle.keep_trees.specs.Pages.{our_trees};
 ghost use Rattle.keep_files.specs.Looks.{AreFound, FindsTrees};
-ghost use Rattle.keep_files.specs.Files.{FileGives, OfFiles, Shows};
+ghost use Rattle.keep_files.specs.Files.{AreLeft, FileGives, HaveOurForm, OfClosed, OfFiles, Shows, WereOpened};
 ghost use Rattle.keep_files.specs.Openings.{AsStore, AsTrees, AsWhole, FromPath, put_part, read_part};
-ghost use Rattle.keep_files.specs.Openings.{AreRefused, RefusesFiles, RefusesPath};
+ghost use Rattle.keep_files.specs.Refusals.{AreRefused, RefusesFiles, RefusesPath};
 
 use crate::at_path::AtPath;
 use crate::cause::{Cause, cause_of};
@@ -38,7 +42,10 @@ fn our_page_size<D: Disk>(alloc: Global, files: &mut Files<D>) -> Option<PageSiz
     requires db { IsTrue (D.Disk.is_usable files.old.db) }
     ensures log { IsTrue (D.Disk.is_usable files.new.log) }
     ensures db { IsTrue (D.Disk.is_usable files.new.db) }
-    ensures same { IfSome result (λ _. image_of D.Disk files.new ≡ image_of D.Disk files.old) }
+    ensures reads { OnlyReadsBoth D.Disk (files.old.log, files.old.db) (files.new.log, files.new.db) }
+    ensures sized { IfSome result (λ size. bytes_of size ≡ 4096) }
+    ensures form { IfSome result (λ _. AreClean D.Disk files.new.log files.new.db
+        → HaveOurForm (image_of D.Disk files.old)) }
 {
     let Ok(Some(size)) = probe_page_size(files) else {
         return None;
@@ -66,6 +73,8 @@ fn pool_over<D: Disk>(
     requires db { IsTrue (D.Disk.is_usable files.db) }
     ensures usable { IfOk result AreUsable }
     ensures files { IfOk result (λ pool. files_in pool ≡ (files.log, files.db)) }
+    ensures sized { IfOk result (λ pool. (state pool).page_size ≡ bytes_of size) }
+    ensures back { IfErr result (λ left. (left.log ≡ files.log) × (left.db ≡ files.db)) }
 {
     let pager = match Pager::new(alloc, files, size, Options::new(seed)) {
         Ok(pager) => pager,
@@ -80,7 +89,11 @@ fn pool_over<D: Disk>(
 /// Pages, once what their log has was found. They are given back where that failed.
 fn recovered<D: Disk>(mut pool: Pool<D>) -> Result<Pool<D>, Pool<D>>
     requires { AreUsable pool }
-    ensures { IfOk result (λ found. IsTrue (state found).is_clean → Shows (image pool) found) }
+    ensures shows { IfOk result (λ found. IsTrue (state found).is_clean → Shows (image pool) found) }
+    ensures ready { IfOk result (λ found. IsTrue (state found).is_clean → IsTrue (state found).is_open) }
+    ensures found { IfOk result (λ found. IsTrue (state found).is_clean
+        → Recovers (state pool).page_size (image pool) (state found).committed) }
+    ensures kept { MatchResult result (WereOpened pool) (WereOpened pool) }
 {
     match pool.recover(false) {
         Ok(()) => Ok(pool),
@@ -98,6 +111,7 @@ pub fn trees_of<D: Disk + Drop>(
     requires db { IsTrue (D.Disk.is_usable files.db) }
     ensures found { IfOk result (AreFound ⟦<Pool<D> as Pages>⟧) }
     ensures opened { IfOk result (λ trees. OfFiles D.Disk files (AsTrees trees)) }
+    ensures left { IfErr result (AreLeft D.Disk files) }
 {
     let Some(size) = our_page_size(alloc, &mut files) else {
         return Err(files);
@@ -121,6 +135,7 @@ fn listed<P: Pages>(alloc: Global, pages: P) -> Result<PageTrees<P>, P>
     ensures found { IfOk result (AreFound P.Pages) }
     ensures kept { IfOk result (λ trees. Continues P.Pages pages trees.pages) }
     ensures same { IfOk result (λ trees. P.Pages.pages trees.pages ≡ P.Pages.pages pages) }
+    ensures back { IfErr result (λ back. Continues P.Pages pages back) }
 {
     match PageTrees::open(alloc, pages) {
         Ok(trees) => Ok(trees),
@@ -136,8 +151,8 @@ pub fn connected<D: Disk + Drop>(
     files: Files<D>,
     seed: u64,
 ) -> Result<Connection<FileStore<D>>, Cause>
-    ensures opened { IfOk result (λ conn. OfFiles D.Disk files (AsWhole conn)) }
-    ensures refused { IfErr result (AreRefused D.Disk) }
+    ensures opened { IfOk result (λ conn. OfClosed D.Disk files (AsWhole conn)) }
+    ensures refused { IfErr result (AreRefused D.Disk files) }
 {
     if !files.may_be_used() {
         return Err(Cause::DiskFailed);
@@ -153,8 +168,8 @@ pub fn opened_whole<D: AtPath>(
     rt: &HostRuntime,
     files: Files<D>,
 ) -> Result<Connection<FileStore<D>>, Cause>
-    ensures opened { IfOk result (λ conn. OfFiles D.Disk files (AsWhole conn)) }
-    ensures refused { IfErr result (RefusesFiles D.Disk D.AtPath.undrawn) }
+    ensures opened { IfOk result (λ conn. OfClosed D.Disk files (AsWhole conn)) }
+    ensures refused { IfErr result (RefusesFiles D.Disk D.AtPath.undrawn files) }
 {
     match D::draw(rt) {
         Ok(seed) => connected(rt, files, seed),
@@ -168,7 +183,8 @@ pub fn open_whole<D: AtPath>(
     path: &str,
 ) -> Result<Connection<FileStore<D>>, Cause>
     ensures opened { IfOk result (λ conn. FileGives D.Disk D.AtPath.reaches (FromPath path.now) (AsWhole conn)) }
-    ensures refused { IfErr result (RefusesPath D.Disk D.AtPath.refuses D.AtPath.undrawn path.now) }
+    ensures refused { IfErr result
+        (RefusesPath D.Disk D.AtPath.reaches D.AtPath.refuses D.AtPath.undrawn path.now) }
 {
     match D::open(rt, path) {
         Ok(files) => opened_whole(rt, files),
@@ -187,6 +203,9 @@ fn unopened_over<D: Disk + Drop>(
     requires db { IsTrue (D.Disk.is_usable files.db) }
     ensures usable { IfOk result MayOpen }
     ensures files { IfOk result (λ unopened. files_of unopened ≡ (files.log, files.db)) }
+    ensures sized { IfOk result (λ unopened. (state_of unopened).page_size ≡ bytes_of size) }
+    ensures ours { IfOk result (λ unopened. wanted_by unopened ≡ our_trees) }
+    ensures back { IfErr result (λ left. (left.log ≡ files.log) × (left.db ≡ files.db)) }
 {
     let pager = match Pager::new(alloc, files, size, Options::new(seed)) {
         Ok(pager) => pager,
@@ -204,7 +223,8 @@ fn checked<D: Disk + Drop>(
     mut files: Files<D>,
     seed: u64,
 ) -> Result<FileStore<D>, Files<D>>
-    ensures { IfOk result (λ store. OfFiles D.Disk files (AsStore store)) }
+    ensures opened { IfOk result (λ store. OfFiles D.Disk files (AsStore store)) }
+    ensures left { IfErr result (AreLeft D.Disk files) }
 {
     if !files.may_be_used() {
         return Err(files);
@@ -228,7 +248,7 @@ pub fn stored<D: AtPath>(
     files: Files<D>,
 ) -> Result<Kept<FileStore<D>, Connection<FileStore<D>>>, Cause>
     ensures opened { IfOk result (λ kept. OfFiles D.Disk files (put_part kept)) }
-    ensures refused { IfErr result (RefusesFiles D.Disk D.AtPath.undrawn) }
+    ensures refused { IfErr result (RefusesFiles D.Disk D.AtPath.undrawn files) }
 {
     let seed = match D::draw(rt) {
         Ok(seed) => seed,
@@ -247,7 +267,7 @@ pub fn stored<D: AtPath>(
 /// The trees of files that a store gave back, if they are exactly ours. Else the files are let go.
 pub fn listed_again<D: AtPath>(rt: &HostRuntime, files: Files<D>) -> Option<PageTrees<Pool<D>>>
     ensures found { IfSome result (AreFound ⟦<Pool<D> as Pages>⟧) }
-    ensures opened { IfSome result (λ trees. OfFiles D.Disk files (AsTrees trees)) }
+    ensures opened { IfSome result (λ trees. OfClosed D.Disk files (AsTrees trees)) }
 {
     if !files.may_be_used() {
         return None;
@@ -268,7 +288,8 @@ pub fn open_to_read<D: AtPath>(
 ) -> Result<Kept<PageTrees<Pool<D>>, Connection<FileStore<D>>>, Cause>
     ensures found { IfOk result (FindsTrees ⟦<Pool<D> as Pages>⟧) }
     ensures opened { IfOk result (λ kept. FileGives D.Disk D.AtPath.reaches (FromPath path.now) (read_part kept)) }
-    ensures refused { IfErr result (RefusesPath D.Disk D.AtPath.refuses D.AtPath.undrawn path.now) }
+    ensures refused { IfErr result
+        (RefusesPath D.Disk D.AtPath.reaches D.AtPath.refuses D.AtPath.undrawn path.now) }
 {
     let seed = match D::draw(rt) {
         Ok(seed) => seed,

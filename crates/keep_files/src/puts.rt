@@ -17,18 +17,24 @@ pub struct PutDay<'a> {
 
 impl<'a> Putting for PutDay<'a> {
     ghost use Rattle.keep_office.specs.Kept.{IsDayPut, IsLater, with_day};
-    ghost use Rattle.keep_writes.specs.Writes.{WritesDay};
+    ghost use Rattle.keep_writes.specs.Writes.{day_texts};
     ghost use Rattle.keep_puts.specs.Room.{RoomForDay};
+    ghost use Rattle.keep_puts.specs.Steps.{IsFreshDay};
+    ghost use Rattle.keep_puts.specs.Puts.{PutsDay};
 
     ghost fits = { λ put. IsDayPut put.kept.now put.rows.now };
 
     ghost room = { λ put. RoomForDay put.kept.now put.rows.now };
 
-    ghost writes = { λ put. WritesDay put.kept.now put.rows.now };
+    ghost writes = { λ put. day_texts put.kept.now put.rows.now };
 
     ghost asks = { λ put. IsLater put.kept.now.day };
 
     ghost next = { λ put. with_day put.kept.now put.rows.now };
+
+    ghost finds = { λ put. IsFreshDay put.kept.now put.rows.now };
+
+    ghost makes = { λ put. PutsDay put.kept.now put.rows.now };
 
     fn store<S: Store>(&self, alloc: Global, store: &mut S) -> Result<bool, StoreError> {
         keep_puts::put_day(store, alloc, self.kept, self.rows)
@@ -48,18 +54,24 @@ pub struct PutPast<'a> {
 
 impl<'a> Putting for PutPast<'a> {
     ghost use Rattle.keep_office.specs.Kept.{IsPastPut, HasNoDays, with_past};
-    ghost use Rattle.keep_writes.specs.Writes.{WritesPast};
+    ghost use Rattle.keep_writes.specs.Writes.{past_texts};
     ghost use Rattle.keep_puts.specs.Room.{RoomForPast};
+    ghost use Rattle.keep_puts.specs.Steps.{IsFreshPast};
+    ghost use Rattle.keep_puts.specs.Puts.{PutsPast};
 
     ghost fits = { λ put. IsPastPut put.kept.now put.rows.now };
 
     ghost room = { λ put. RoomForPast put.rows.now };
 
-    ghost writes = { λ put. WritesPast put.kept.now put.rows.now };
+    ghost writes = { λ put. past_texts put.kept.now put.rows.now };
 
     ghost asks = { λ put. HasNoDays };
 
     ghost next = { λ put. with_past put.kept.now put.rows.now };
+
+    ghost finds = { λ put. IsFreshPast put.rows.now };
+
+    ghost makes = { λ put. PutsPast put.kept.now put.rows.now };
 
     fn store<S: Store>(&self, alloc: Global, store: &mut S) -> Result<bool, StoreError> {
         keep_puts::put_past(store, alloc, self.kept, self.rows)
@@ -81,18 +93,24 @@ impl<'a> Putting for PutTariff<'a> {
     ghost use Rattle.road_time.specs.Rates.{IsTariff};
     ghost use Rattle.keep_office.specs.Kept.{with_tariff_of};
     ghost use Rattle.keep_tables.specs.Steps.{FitsAny};
-    ghost use Rattle.keep_writes.specs.Writes.{WritesTariff};
+    ghost use Rattle.keep_writes.specs.Writes.{tariff_texts};
     ghost use Rattle.keep_puts.specs.Room.{RoomForTariff};
+    ghost use Rattle.keep_puts.specs.Puts.{PutsTariff};
+    ghost use Rattle.keep_files.specs.Storing.{FindsAny};
 
     ghost fits = { λ put. IsTariff put.tariff.now };
 
     ghost room = { λ put. RoomForTariff };
 
-    ghost writes = { λ put. WritesTariff put.xway put.tariff.now };
+    ghost writes = { λ put. tariff_texts put.xway put.tariff.now };
 
     ghost asks = { λ put. FitsAny };
 
     ghost next = { λ put. with_tariff_of put.xway put.tariff.now };
+
+    ghost finds = { λ put. FindsAny };
+
+    ghost makes = { λ put. PutsTariff put.xway put.tariff.now };
 
     fn store<S: Store>(&self, alloc: Global, store: &mut S) -> Result<bool, StoreError> {
         keep_puts::put_tariff(store, alloc, self.xway, self.tariff)

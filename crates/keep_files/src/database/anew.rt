@@ -2,10 +2,13 @@
 ghost use Rattle.std.specs.Prelude.{◌≡◌, None, string_bytes};
 ghost use Rattle.keep_office.specs.Kept.{IsPastPut};
 ghost use Rattle.keep_office.specs.Renewed.{anew};
+ghost use Rattle.keep_tables.specs.Steps.{FitsAny};
 ghost use Rattle.keep_puts.specs.Room.{RoomAnew};
+ghost use Rattle.keep_puts.specs.Puts.{PutsAnew};
 ghost use Rattle.keep_files.specs.Anew.{AskedAnew, IsAnewByTrees};
 ghost use Rattle.keep_files.specs.Causes.{IsSaid};
 ghost use Rattle.keep_files.specs.Origins.{TriesPath};
+ghost use Rattle.keep_files.specs.Storing.{FindsAny, PutsInto};
 
 use super::{Database, held_again};
 use crate::cause::{Cause, say, say_of_store};
@@ -21,7 +24,8 @@ impl<S: Opens<P>, P: Pages + Drop> Database<S, P> {
     pub(crate) fn put_anew(&mut self, kept: &PastRecord, rows: &[SpentRow]) -> Result<(), KeepFault>
         requires { IsPastPut kept.now rows.now }
         ensures does { AskedAnew P.Pages S.Store S.Opens.gives S.Opens.refuses S.Opens.foreign
-            (RoomAnew rows.now) (anew kept.now rows.now)
+            (PutsInto S.Store (RoomAnew rows.now) FitsAny (anew kept.now rows.now)
+            FindsAny (PutsAnew kept.now rows.now))
             self.old.kept (string_bytes self.old.path) self.new.kept self.new.cause result }
         ensures tried { TriesPath S.Store S.Opens.gives S.Opens.refuses (string_bytes self.old.path) self.old.kept }
         ensures said { IsSaid result self.old.cause self.new.cause }
@@ -51,7 +55,8 @@ impl<S: Opens<P>, P: Pages + Drop> Database<S, P> {
         requires fits { IsPastPut kept.now rows.now }
         requires none { self.old.kept ≡ None }
         ensures does { IsAnewByTrees P.Pages S.Store S.Opens.gives S.Opens.refuses S.Opens.foreign
-            (RoomAnew rows.now) (anew kept.now rows.now)
+            (PutsInto S.Store (RoomAnew rows.now) FitsAny (anew kept.now rows.now)
+            FindsAny (PutsAnew kept.now rows.now))
             trees (string_bytes self.old.path) self.new.kept self.new.cause result }
         ensures said { IsSaid result self.old.cause self.new.cause }
         ensures stays { self.new.path ≡ self.old.path }

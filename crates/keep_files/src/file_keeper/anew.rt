@@ -5,9 +5,11 @@ ghost use Rattle.keep_office.specs.Calls.{CountsFaults};
 ghost use Rattle.keep_office.specs.Renewed.{anew};
 ghost use Rattle.keep_tables.specs.Steps.{FitsAny};
 ghost use Rattle.keep_puts.specs.Room.{RoomAnew};
+ghost use Rattle.keep_puts.specs.Puts.{PutsAnew};
 ghost use Rattle.keep_files.specs.Anew.{AskedAnew};
 ghost use Rattle.keep_files.specs.Origins.{TriesPath};
 ghost use Rattle.keep_files.specs.Says.{Says};
+ghost use Rattle.keep_files.specs.Storing.{FindsAny, PutsInto};
 
 use super::FileKeeper;
 use crate::at_path::AtPath;
@@ -26,7 +28,8 @@ impl<D: AtPath> FileKeeper<D> {
         ensures does { AskedAnew ⟦<Pool<D> as Pages>⟧ ⟦<FileStore<D> as Store>⟧
             ⟦<FileStore<D> as Opens<Pool<D>>>⟧.gives ⟦<FileStore<D> as Opens<Pool<D>>>⟧.refuses
             ⟦<FileStore<D> as Opens<Pool<D>>>⟧.foreign
-            (RoomAnew rows.now) (anew kept.now rows.now)
+            (PutsInto ⟦<FileStore<D> as Store>⟧ (RoomAnew rows.now) FitsAny (anew kept.now rows.now)
+            FindsAny (PutsAnew kept.now rows.now))
             self.old.in_file.database.kept (string_bytes self.old.in_file.database.path)
             self.new.in_file.database.kept self.new.in_file.database.cause result }
         ensures tried { TriesPath ⟦<FileStore<D> as Store>⟧ ⟦<FileStore<D> as Opens<Pool<D>>>⟧.gives

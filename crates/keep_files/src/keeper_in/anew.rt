@@ -5,9 +5,11 @@ ghost use Rattle.keep_office.specs.Calls.{CountsFaults};
 ghost use Rattle.keep_office.specs.Renewed.{anew};
 ghost use Rattle.keep_tables.specs.Steps.{FitsAny};
 ghost use Rattle.keep_puts.specs.Room.{RoomAnew};
+ghost use Rattle.keep_puts.specs.Puts.{PutsAnew};
 ghost use Rattle.keep_files.specs.Anew.{AskedAnew};
 ghost use Rattle.keep_files.specs.Origins.{TriesPath};
 ghost use Rattle.keep_files.specs.Says.{Says};
+ghost use Rattle.keep_files.specs.Storing.{FindsAny, PutsInto};
 
 use super::KeeperIn;
 use crate::opens::Opens;
@@ -21,7 +23,8 @@ impl<S: Opens<P>, P: Pages + Drop> KeeperIn<S, P> {
     pub fn put_anew(&mut self, kept: &PastRecord, rows: &[SpentRow]) -> Result<(), KeepFault>
         requires { IsPastPut kept.now rows.now }
         ensures does { AskedAnew P.Pages S.Store S.Opens.gives S.Opens.refuses S.Opens.foreign
-            (RoomAnew rows.now) (anew kept.now rows.now)
+            (PutsInto S.Store (RoomAnew rows.now) FitsAny (anew kept.now rows.now)
+            FindsAny (PutsAnew kept.now rows.now))
             self.old.database.kept (string_bytes self.old.database.path)
             self.new.database.kept self.new.database.cause result }
         ensures tried { TriesPath S.Store S.Opens.gives S.Opens.refuses

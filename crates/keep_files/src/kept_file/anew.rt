@@ -5,9 +5,11 @@ ghost use Rattle.keep_office.specs.Calls.{CountsFaults};
 ghost use Rattle.keep_office.specs.Renewed.{anew};
 ghost use Rattle.keep_tables.specs.Steps.{FitsAny};
 ghost use Rattle.keep_puts.specs.Room.{RoomAnew};
+ghost use Rattle.keep_puts.specs.Puts.{PutsAnew};
 ghost use Rattle.keep_files.specs.Anew.{AskedAnew};
 ghost use Rattle.keep_files.specs.Origins.{TriesPath};
 ghost use Rattle.keep_files.specs.Says.{Says};
+ghost use Rattle.keep_files.specs.Storing.{FindsAny, PutsInto};
 
 use super::SqliteKeeper;
 use crate::at_path::{KeptPages, KeptStore};
@@ -28,7 +30,8 @@ impl Renews for SqliteKeeper {
         ensures does { AskedAnew ⟦<KeptPages as Pages>⟧ ⟦<KeptStore as Store>⟧
             ⟦<KeptStore as Opens<KeptPages>>⟧.gives ⟦<KeptStore as Opens<KeptPages>>⟧.refuses
             ⟦<KeptStore as Opens<KeptPages>>⟧.foreign
-            (RoomAnew rows.now) (anew kept.now rows.now)
+            (PutsInto ⟦<KeptStore as Store>⟧ (RoomAnew rows.now) FitsAny (anew kept.now rows.now)
+            FindsAny (PutsAnew kept.now rows.now))
             self.old.in_file.in_file.database.kept (string_bytes self.old.in_file.in_file.database.path)
             self.new.in_file.in_file.database.kept self.new.in_file.in_file.database.cause result }
     {

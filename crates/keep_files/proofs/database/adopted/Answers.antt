@@ -1,4 +1,4 @@
-use Rattle.std.proofs.Common.{rules, ◌≡◌, ◌≢◌, Option, Some, refl, subst}
+use Rattle.std.proofs.Common.{rules, ◌≡◌, ◌≢◌, Option, Some, refl, subst, sym, ◌∙◌}
 use Rattle.sqlite.specs.declared.error.Error.{Error}
 use Rattle.sqlite.specs.declared.error.Error.TheVariants.{SqliteFailure}
 use Rattle.sqlite.specs.declared.error.ErrorCode.TheVariants.{OutOfMemory}
@@ -19,6 +19,9 @@ returns-in-Some-NoMemory-clause-unmade g c =
       why = λ clean.
           subst (λ (refused : Option Error). IsUnmadeBy g.S.Store c.set_clock.new.self c.adopt-kept.result.conn refused)
           told (c.adopt-kept.ensures.why clean);
+      kept = λ clean. c.adopt-kept.ensures.kept clean (λ none. absurd (let wrong = sym none ∙ unmade in cc));
+      leaves = c.adopt-kept.ensures.leaves;
+      crash = c.adopt-kept.ensures.crash;
     }
 
 pub returns-in_default-clause-made : goal.returns-in_default-clause-made
@@ -30,12 +33,15 @@ returns-in_default-clause-made g c =
       roomy = roomy;
       why = c.adopt-kept.ensures.why;
       told = c.adopt-kept.ensures.told;
+      quiet = c.adopt-kept.ensures.quiet;
       stands = c.adopt-kept.ensures.stands;
+      made = c.adopt-kept.ensures.made;
       left = c.adopt-kept.ensures.left;
       there = c.adopt-kept.ensures.there;
       ours = c.adopt-kept.ensures.ours;
-      second = c.adopt-kept.ensures.second;
+      wrote = c.adopt-kept.ensures.wrote;
       rest = c.adopt-kept.ensures.rest;
       kept = c.adopt-kept.ensures.kept;
+      leaves = c.adopt-kept.ensures.leaves;
       crash = c.adopt-kept.ensures.crash;
     }

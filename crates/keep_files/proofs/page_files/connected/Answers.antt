@@ -5,21 +5,19 @@ use Rattle.keep_files.proofs.page_files.connected.Goals as goal
 pub returns-then-not-may_be_used-clause-refused : goal.returns-then-not-may_be_used-clause-refused
 returns-then-not-may_be_used-clause-refused g c =
     let spent : c.may_be_used.result ≡ false = search rules in
-    record { files = c.args.files; why = inl (subst (λ (b : Bool). b ≡ false) c.may_be_used.ensures spent, refl) }
+    inl (subst (λ (b : Bool). b ≡ false) c.may_be_used.ensures spent, refl)
 
 -- files that the database refused
 pub returns-in-Err-clause-refused : goal.returns-in-Err-clause-refused
-returns-in-Err-clause-refused g c = record {
-  files = c.args.files;
-  why = inr (record {
-    error = c.in-Err.error;
-    left = c.in-Err._left;
-    fails = c.in-Err.ensures.cause;
-    harmless = c.in-Err.ensures.unharmed;
-    names = c.cause_of.ensures;
-  });
-}
+returns-in-Err-clause-refused g c =
+    inr (record {
+      error = c.in-Err.error;
+      left = c.in-Err._left;
+      fails = c.in-Err.ensures.cause;
+      harmless = c.in-Err.ensures.unharmed;
+      names = c.cause_of.ensures;
+    })
 
 -- files that it opened
 pub returns-in-Ok-clause-opened : goal.returns-in-Ok-clause-opened
-returns-in-Ok-clause-opened g c = (c.args.files, c.in-Ok.ensures.found)
+returns-in-Ok-clause-opened g c = c.in-Ok.ensures.found

@@ -1,12 +1,74 @@
+use Rattle.std.proofs.Common.{◌≡◌, ◌∙◌, IsTrue, arith}
+use Rattle.sqlite_pages.specs.Outcome.{doubt}
+use Rattle.sqlite_pages.proofs.Doubt.{clean_of, no_doubt}
 use Rattle.sqlite_pool.specs.Opening.{image}
+use Rattle.sqlite_pool.specs.Pool as pool
 use Rattle.sqlite.specs.Files.{image_of}
 use Rattle.keep_files.proofs.FileLaws.{image_is, shows_later}
+use Rattle.keep_files.proofs.LeftLaws.{left_handed, left_pages, left_read, pages_before, read_same, still_before}
+use Rattle.keep_files.proofs.LeftLaws.{were_clean}
 use Rattle.keep_files.proofs.page_files.trees_of.Goals as goal
 
 -- the pages show what the files recover to
 pub returns-in-Ok-listed-clause-opened : goal.returns-in-Ok-listed-clause-opened
 returns-in-Ok-listed-clause-opened g c =
-    shows_later (image c.in-Ok.pool) (image_of g.D.Disk c.args.files) c.in-Ok-recovered.pool c.in-Ok-listed.trees.pages
-    (image_is g.D.Disk c.our_page_size.new.files c.args.files _ c.in-Ok.ensures.files c.in-Some.ensures.same)
-    c.in-Ok-listed.ensures.kept.same_size c.in-Ok-listed.ensures.kept.clean c.in-Ok-listed.ensures.same
-    c.in-Ok-recovered.ensures
+    let seen = c.our_page_size.new.files in
+    let found = c.in-Ok-recovered.pool in
+    let last = c.in-Ok-listed.trees.pages in
+    let was : doubt (pool.state last).is_clean ≡ 0 → IsTrue (pool.state found).is_clean =
+    λ sure. clean_of (pool.state found).is_clean (omega (arith, c.in-Ok-listed.ensures.kept.clean, sure)) in
+    record {
+      sized =
+          c.in-Ok-listed.ensures.kept.same_size ∙ c.in-Ok-recovered.ensures.kept.kept.size ∙ c.in-Ok.ensures.sized
+          ∙ c.in-Some.ensures.sized;
+      form = λ sure. c.in-Some.ensures.form
+          (were_clean c.in-Ok.pool seen.log seen.db c.in-Ok.ensures.files
+          (c.in-Ok-recovered.ensures.kept.kept.clean (was sure)));
+      shown = shows_later (image c.in-Ok.pool) (image_of g.D.Disk c.args.files) found last
+          (image_is g.D.Disk seen c.args.files _ c.in-Ok.ensures.files
+          (read_same c.args.files seen c.our_page_size.ensures.reads))
+          c.in-Ok-listed.ensures.kept.same_size c.in-Ok-listed.ensures.kept.clean c.in-Ok-listed.ensures.same
+          c.in-Ok-recovered.ensures.shows;
+      crash = λ sure. pages_before g.D.Disk c.args.files seen c.in-Ok.pool last c.our_page_size.ensures.reads
+          c.in-Ok.ensures.files (c.in-Ok.ensures.sized ∙ c.in-Some.ensures.sized)
+          (λ clean. still_before g.met.D.Disk.seen_may_stay c.in-Ok.pool found last
+          c.in-Ok-recovered.ensures.kept.kept.size (c.in-Ok-recovered.ensures.ready (was sure))
+          (c.in-Ok-recovered.ensures.found (was sure)) c.in-Ok-listed.ensures.kept.in_order)
+          (clean_of (pool.state last).is_clean sure);
+    }
+
+-- the files do not have our form
+pub returns-in_default-clause-left : goal.returns-in_default-clause-left
+returns-in_default-clause-left g c =
+    left_read g.D.Disk g.met.D.Disk.seen_may_stay c.args.files c.our_page_size.new.files c.our_page_size.ensures.reads
+
+-- no pages were made of them
+pub returns-in-Err-clause-left : goal.returns-in-Err-clause-left
+returns-in-Err-clause-left g c =
+    left_handed g.D.Disk g.met.D.Disk.seen_may_stay c.args.files c.our_page_size.new.files c.in-Err.files
+    c.our_page_size.ensures.reads c.in-Err.ensures.back
+
+-- the pages could not be recovered
+pub returns-in-Err-recovered-clause-left : goal.returns-in-Err-recovered-clause-left
+returns-in-Err-recovered-clause-left g c =
+    left_pages g.D.Disk c.args.files c.our_page_size.new.files c.in-Ok.pool c.in-Err-recovered.pool
+    c.our_page_size.ensures.reads c.in-Ok.ensures.files (c.in-Ok.ensures.sized ∙ c.in-Some.ensures.sized)
+    (λ clean. c.in-Err-recovered.ensures.kept.crash) g.met.D.Disk.seen_may_stay c.close.result
+    c.in-Some.ensures.form c.in-Err-recovered.ensures.kept.kept.clean c.close.ensures
+
+-- they do not list our trees
+pub returns-in-Err-listed-clause-left : goal.returns-in-Err-listed-clause-left
+returns-in-Err-listed-clause-left g c =
+    let found = c.in-Ok-recovered.pool in
+    let last = c.in-Err-listed.pool in
+    let was : IsTrue (pool.state last).is_clean → IsTrue (pool.state found).is_clean =
+    λ clean.
+    let now : doubt (pool.state last).is_clean ≡ 0 = no_doubt (pool.state last).is_clean clean in
+    clean_of (pool.state found).is_clean (omega (arith, now, c.in-Err-listed.ensures.back.clean)) in
+    left_pages g.D.Disk c.args.files c.our_page_size.new.files c.in-Ok.pool last c.our_page_size.ensures.reads
+    c.in-Ok.ensures.files (c.in-Ok.ensures.sized ∙ c.in-Some.ensures.sized)
+    (λ clean. still_before g.met.D.Disk.seen_may_stay c.in-Ok.pool found last
+    c.in-Ok-recovered.ensures.kept.kept.size (c.in-Ok-recovered.ensures.ready (was clean))
+    (c.in-Ok-recovered.ensures.found (was clean)) c.in-Err-listed.ensures.back.in_order)
+    g.met.D.Disk.seen_may_stay c.close-in-Err-listed.result c.in-Some.ensures.form
+    (λ clean. c.in-Ok-recovered.ensures.kept.kept.clean (was clean)) c.close-in-Err-listed.ensures

@@ -9,7 +9,7 @@ use Rattle.keep_files.proofs.database.Database.put_anew.Goals as goal
 -- nothing was opened
 pub returns-in-Err-clause-does : goal.returns-in-Err-clause-does
 returns-in-Err-clause-does g c =
-    not_anew g.P.Pages g.S.Store g.S.Opens.gives g.S.Opens.refuses g.S.Opens.foreign _ _
+    not_anew g.P.Pages g.S.Store g.S.Opens.gives g.S.Opens.refuses g.S.Opens.foreign _
     (string_bytes c.args.self.now.path) _ _ _
     (OfFile g.S.Store g.S.Opens.gives PutsNothing (string_bytes c.args.self.now.path) c.args.self.now.kept)
     c.in-Err.cause c.in-Err.ensures.none (inl (inl c.in-Err.ensures.refused))
@@ -18,7 +18,7 @@ returns-in-Err-clause-does g c =
 -- trees are there
 pub returns-in-Trees-clause-does : goal.returns-in-Trees-clause-does
 returns-in-Trees-clause-does g c =
-    anew_by_trees g.P.Pages g.S.Store g.S.Opens.gives g.S.Opens.refuses g.S.Opens.foreign _ _
+    anew_by_trees g.P.Pages g.S.Store g.S.Opens.gives g.S.Opens.refuses g.S.Opens.foreign _
     (string_bytes c.args.self.now.path) c.args.self.now.kept _ _ _
     c.in-Trees.trees
     (ready_trees_come g.S.Store g.S.Opens.gives g.P.Pages (string_bytes c.args.self.now.path) c.args.self.now.kept
@@ -30,7 +30,7 @@ returns-in-Trees-clause-does g c =
 -- the trees of the whole file are found
 pub returns-in-Some-clause-does : goal.returns-in-Some-clause-does
 returns-in-Some-clause-does g c =
-    anew_by_trees g.P.Pages g.S.Store g.S.Opens.gives g.S.Opens.refuses g.S.Opens.foreign _ _
+    anew_by_trees g.P.Pages g.S.Store g.S.Opens.gives g.S.Opens.refuses g.S.Opens.foreign _
     (string_bytes c.args.self.now.path) c.args.self.now.kept _ _ _
     c.in-Some.trees
     (of_store c.into_store.result (AsTrees c.in-Some.trees)
@@ -51,7 +51,7 @@ returns-in-Some-clause-does g c =
 -- they are not
 pub returns-in-None-clause-does : goal.returns-in-None-clause-does
 returns-in-None-clause-does g c =
-    not_anew g.P.Pages g.S.Store g.S.Opens.gives g.S.Opens.refuses g.S.Opens.foreign _ _
+    not_anew g.P.Pages g.S.Store g.S.Opens.gives g.S.Opens.refuses g.S.Opens.foreign _
     (string_bytes c.args.self.now.path) _ _ _
     (OfFile g.S.Store g.S.Opens.gives PutsNothing (string_bytes c.args.self.now.path) c.args.self.now.kept)
     _ c.in-Ok.ensures.none

@@ -5,6 +5,7 @@ use Rattle.keep_files.specs.Origins.{Comes, FoundAgain, PutsNothing, at_first, o
 use Rattle.keep_files.proofs.AnewLaws.{not_anew, put_anew_so, told_anew, told_failed_anew, told_foreign}
 use Rattle.keep_files.proofs.AskedLaws.{holds_none}
 use Rattle.keep_files.proofs.OriginLaws.{put_given}
+use Rattle.keep_files.proofs.StoringLaws.{puts_any}
 use Rattle.keep_files.proofs.database.Database.put_anew_by.Goals as goal
 
 -- the file is opened whole
@@ -14,7 +15,7 @@ returns-in-Ok-Whole-clause-does g c =
     subst (IfWhole (g.S.Opens.foreign (FromPages c.give_up.result))) c.in-Ok-Whole.field-0-is
     c.in-Ok-Whole.ensures.whole
     in
-    not_anew g.P.Pages g.S.Store g.S.Opens.gives g.S.Opens.refuses g.S.Opens.foreign _ _
+    not_anew g.P.Pages g.S.Store g.S.Opens.gives g.S.Opens.refuses g.S.Opens.foreign _
     (string_bytes c.args.self.now.path) _ _ _
     (Comes g.S.Store g.S.Opens.gives PutsNothing (λ part. part ≡ AsTrees c.args.trees))
     _ c.requires.none
@@ -38,7 +39,7 @@ returns-in-Ok-Whole-clause-does g c =
 -- no store was opened
 pub returns-in-Err-clause-does : goal.returns-in-Err-clause-does
 returns-in-Err-clause-does g c =
-    not_anew g.P.Pages g.S.Store g.S.Opens.gives g.S.Opens.refuses g.S.Opens.foreign _ _
+    not_anew g.P.Pages g.S.Store g.S.Opens.gives g.S.Opens.refuses g.S.Opens.foreign _
     (string_bytes c.args.self.now.path) _ _ _
     (Comes g.S.Store g.S.Opens.gives PutsNothing (λ part. part ≡ AsTrees c.args.trees))
     c.in-Err.cause c.requires.none
@@ -61,7 +62,7 @@ returns-in-Err-clause-does g c =
 -- the store failed
 pub returns-in-Err-put_anew-clause-does : goal.returns-in-Err-put_anew-clause-does
 returns-in-Err-put_anew-clause-does g c =
-    put_anew_so g.P.Pages g.S.Store g.S.Opens.gives g.S.Opens.refuses g.S.Opens.foreign _ _
+    put_anew_so g.P.Pages g.S.Store g.S.Opens.gives g.S.Opens.refuses g.S.Opens.foreign _
     (string_bytes c.args.self.now.path) _ _ _
     (Comes g.S.Store g.S.Opens.gives PutsNothing (λ part. part ≡ AsTrees c.args.trees))
     c.in-Ok-Trees.store c.put_anew.new.store c.put_anew.result
@@ -69,7 +70,7 @@ returns-in-Err-put_anew-clause-does g c =
     (put_given g.S.Opens.gives c.give_up.result c.args.trees.pages c.in-Ok-Trees.field-0
     (Trees c.in-Ok-Trees.store) c.give_up.ensures
     c.in-Ok-Trees.field-0-is c.in-Ok-Trees.ensures.opened))
-    c.put_anew.ensures
+    (puts_any g.S.Store _ _ _ _ _ _ _ c.put_anew.ensures.stores c.put_anew.ensures.writes)
     (told_failed_anew _ _ c.put_anew.result c.in-Err-put_anew.error c.in-Err-put_anew.is c.say_of_store.ensures.fault
     c.say_of_store.ensures.which)
     (holds_none (FoundAgain g.P.Pages g.S.Opens.gives c.put_anew.new.store) _ c.requires.none)
@@ -77,7 +78,7 @@ returns-in-Err-put_anew-clause-does g c =
 -- it does not have our trees
 pub returns-then-not-done-clause-does : goal.returns-then-not-done-clause-does
 returns-then-not-done-clause-does g c =
-    put_anew_so g.P.Pages g.S.Store g.S.Opens.gives g.S.Opens.refuses g.S.Opens.foreign _ _
+    put_anew_so g.P.Pages g.S.Store g.S.Opens.gives g.S.Opens.refuses g.S.Opens.foreign _
     (string_bytes c.args.self.now.path) _ _ _
     (Comes g.S.Store g.S.Opens.gives PutsNothing (λ part. part ≡ AsTrees c.args.trees))
     c.in-Ok-Trees.store c.put_anew.new.store c.put_anew.result
@@ -85,7 +86,7 @@ returns-then-not-done-clause-does g c =
     (put_given g.S.Opens.gives c.give_up.result c.args.trees.pages c.in-Ok-Trees.field-0
     (Trees c.in-Ok-Trees.store) c.give_up.ensures
     c.in-Ok-Trees.field-0-is c.in-Ok-Trees.ensures.opened))
-    c.put_anew.ensures
+    (puts_any g.S.Store _ _ _ _ _ _ _ c.put_anew.ensures.stores c.put_anew.ensures.writes)
     (told_foreign _ _ c.put_anew.result c.in-Ok.done c.in-Ok.is c.if-not-done.true
     (c.say-then-not-done.ensures.fault, c.say-then-not-done.ensures.which))
     (holds_none (FoundAgain g.P.Pages g.S.Opens.gives c.put_anew.new.store) _ c.requires.none)
@@ -93,7 +94,7 @@ returns-then-not-done-clause-does g c =
 -- it was put, and the trees of the store's file are held
 pub returns-clause-does : goal.returns-clause-does
 returns-clause-does g c =
-    put_anew_so g.P.Pages g.S.Store g.S.Opens.gives g.S.Opens.refuses g.S.Opens.foreign _ _
+    put_anew_so g.P.Pages g.S.Store g.S.Opens.gives g.S.Opens.refuses g.S.Opens.foreign _
     (string_bytes c.args.self.now.path) _ _ _
     (Comes g.S.Store g.S.Opens.gives PutsNothing (λ part. part ≡ AsTrees c.args.trees))
     c.in-Ok-Trees.store c.put_anew.new.store c.put_anew.result
@@ -101,5 +102,6 @@ returns-clause-does g c =
     (put_given g.S.Opens.gives c.give_up.result c.args.trees.pages c.in-Ok-Trees.field-0
     (Trees c.in-Ok-Trees.store) c.give_up.ensures
     c.in-Ok-Trees.field-0-is c.in-Ok-Trees.ensures.opened))
-    c.put_anew.ensures (told_anew _ _ c.put_anew.result c.in-Ok.done c.in-Ok.is c.if-not-done.false)
+    (puts_any g.S.Store _ _ _ _ _ _ _ c.put_anew.ensures.stores c.put_anew.ensures.writes)
+    (told_anew _ _ c.put_anew.result c.in-Ok.done c.in-Ok.is c.if-not-done.false)
     c.held_again.ensures

@@ -1,6 +1,7 @@
 use Rattle.std.proofs.Common.{◌≡◌, inl, inr, refl, string_bytes, sym}
 use Rattle.keep_files.specs.declared.kept.Kept.TheVariants.{Trees, Whole}
 use Rattle.keep_files.specs.Asked.{Misfits}
+use Rattle.keep_files.specs.Storing.{PutsInto}
 use Rattle.keep_files.specs.Openings.{AsTrees, AsStore, AsWhole}
 use Rattle.keep_files.specs.Origins.{Comes, FoundAgain, at_first, by_put, of_pages, of_store}
 use Rattle.keep_files.proofs.AskedLaws.{holds_none, misfits_so, not_put, put_over, stored_so, told_done, told_failed}
@@ -11,8 +12,9 @@ use Rattle.keep_files.proofs.database.Database.put_by_trees.Goals as goal
 pub returns-in-Ok-Whole-clause-does : goal.returns-in-Ok-Whole-clause-does
 returns-in-Ok-Whole-clause-does g c =
     put_over g.P.Pages g.S.Store g.S.Opens.gives g.S.Opens.refuses _ _ _ _ (string_bytes c.args.self.now.path) _ _ _
-    (Comes g.S.Store g.S.Opens.gives (Misfits g.S.Store (g.C.Putting.room c.args.call)
-    (g.C.Putting.asks c.args.call) (g.C.Putting.next c.args.call)) (λ part. part ≡ AsTrees c.args.trees))
+    (Comes g.S.Store g.S.Opens.gives (Misfits (PutsInto g.S.Store (g.C.Putting.room c.args.call)
+    (g.C.Putting.asks c.args.call) (g.C.Putting.next c.args.call) (g.C.Putting.finds c.args.call)
+    (g.C.Putting.makes c.args.call))) (λ part. part ≡ AsTrees c.args.trees))
     c.in-Ok-Whole.conn
     (of_pages c.args.trees (AsWhole c.in-Ok-Whole.conn) (at_first (AsTrees c.args.trees) refl)
     (put_given g.S.Opens.gives c.give_up.result c.args.trees.pages c.in-Ok-Whole.field-0
@@ -24,8 +26,9 @@ returns-in-Ok-Whole-clause-does g c =
 pub returns-in-Err-clause-does : goal.returns-in-Err-clause-does
 returns-in-Err-clause-does g c =
     not_put g.P.Pages g.S.Store g.S.Opens.gives g.S.Opens.refuses _ _ _ _ (string_bytes c.args.self.now.path) _ _ _
-    (Comes g.S.Store g.S.Opens.gives (Misfits g.S.Store (g.C.Putting.room c.args.call)
-    (g.C.Putting.asks c.args.call) (g.C.Putting.next c.args.call)) (λ part. part ≡ AsTrees c.args.trees))
+    (Comes g.S.Store g.S.Opens.gives (Misfits (PutsInto g.S.Store (g.C.Putting.room c.args.call)
+    (g.C.Putting.asks c.args.call) (g.C.Putting.next c.args.call) (g.C.Putting.finds c.args.call)
+    (g.C.Putting.makes c.args.call))) (λ part. part ≡ AsTrees c.args.trees))
     c.in-Err.cause c.requires.none
     (inr (inl (
       c.give_up.result,
@@ -45,8 +48,9 @@ returns-in-Err-clause-does g c =
 pub returns-in-Err-store-clause-does : goal.returns-in-Err-store-clause-does
 returns-in-Err-store-clause-does g c =
     stored_so g.P.Pages g.S.Store g.S.Opens.gives g.S.Opens.refuses _ _ _ _ (string_bytes c.args.self.now.path) _ _ _
-    (Comes g.S.Store g.S.Opens.gives (Misfits g.S.Store (g.C.Putting.room c.args.call)
-    (g.C.Putting.asks c.args.call) (g.C.Putting.next c.args.call)) (λ part. part ≡ AsTrees c.args.trees))
+    (Comes g.S.Store g.S.Opens.gives (Misfits (PutsInto g.S.Store (g.C.Putting.room c.args.call)
+    (g.C.Putting.asks c.args.call) (g.C.Putting.next c.args.call) (g.C.Putting.finds c.args.call)
+    (g.C.Putting.makes c.args.call))) (λ part. part ≡ AsTrees c.args.trees))
     c.in-Ok-Trees.store c.store.new.store c.store.result
     (of_pages c.args.trees (AsStore c.in-Ok-Trees.store) (at_first (AsTrees c.args.trees) refl)
     (put_given g.S.Opens.gives c.give_up.result c.args.trees.pages c.in-Ok-Trees.field-0
@@ -61,8 +65,9 @@ returns-in-Err-store-clause-does g c =
 pub returns-then-done-clause-does : goal.returns-then-done-clause-does
 returns-then-done-clause-does g c =
     stored_so g.P.Pages g.S.Store g.S.Opens.gives g.S.Opens.refuses _ _ _ _ (string_bytes c.args.self.now.path) _ _ _
-    (Comes g.S.Store g.S.Opens.gives (Misfits g.S.Store (g.C.Putting.room c.args.call)
-    (g.C.Putting.asks c.args.call) (g.C.Putting.next c.args.call)) (λ part. part ≡ AsTrees c.args.trees))
+    (Comes g.S.Store g.S.Opens.gives (Misfits (PutsInto g.S.Store (g.C.Putting.room c.args.call)
+    (g.C.Putting.asks c.args.call) (g.C.Putting.next c.args.call) (g.C.Putting.finds c.args.call)
+    (g.C.Putting.makes c.args.call))) (λ part. part ≡ AsTrees c.args.trees))
     c.in-Ok-Trees.store c.store.new.store c.store.result
     (of_pages c.args.trees (AsStore c.in-Ok-Trees.store) (at_first (AsTrees c.args.trees) refl)
     (put_given g.S.Opens.gives c.give_up.result c.args.trees.pages c.in-Ok-Trees.field-0
@@ -73,9 +78,11 @@ returns-then-done-clause-does g c =
 -- it did not fit, and the file of the store was opened whole
 pub returns-in-Ok-to_whole-clause-does : goal.returns-in-Ok-to_whole-clause-does
 returns-in-Ok-to_whole-clause-does g c =
+    let puts =
+    PutsInto g.S.Store (g.C.Putting.room c.args.call) (g.C.Putting.asks c.args.call) (g.C.Putting.next c.args.call)
+    (g.C.Putting.finds c.args.call) (g.C.Putting.makes c.args.call) in
     put_over g.P.Pages g.S.Store g.S.Opens.gives g.S.Opens.refuses _ _ _ _ (string_bytes c.args.self.now.path) _ _ _
-    (Comes g.S.Store g.S.Opens.gives (Misfits g.S.Store (g.C.Putting.room c.args.call)
-    (g.C.Putting.asks c.args.call) (g.C.Putting.next c.args.call)) (λ part. part ≡ AsTrees c.args.trees))
+    (Comes g.S.Store g.S.Opens.gives (Misfits puts) (λ part. part ≡ AsTrees c.args.trees))
     c.in-Ok-to_whole.conn
     (of_store c.store.new.store (AsWhole c.in-Ok-to_whole.conn)
     (by_put c.in-Ok-Trees.store c.store.new.store
@@ -83,7 +90,7 @@ returns-in-Ok-to_whole-clause-does g c =
     (put_given g.S.Opens.gives c.give_up.result c.args.trees.pages c.in-Ok-Trees.field-0
     (Trees c.in-Ok-Trees.store) c.give_up.ensures
     c.in-Ok-Trees.field-0-is c.in-Ok-Trees.ensures.opened))
-    (misfits_so g.S.Store _ _ _ c.in-Ok-Trees.store c.store.new.store c.store.result c.in-Ok.done c.in-Ok.is
+    (misfits_so puts c.in-Ok-Trees.store c.store.new.store c.store.result c.in-Ok.done c.in-Ok.is
     c.if-done.false
     c.store.ensures))
     c.in-Ok-to_whole.ensures.opened)
@@ -92,9 +99,11 @@ returns-in-Ok-to_whole-clause-does g c =
 -- or was not
 pub returns-in-Err-to_whole-clause-does : goal.returns-in-Err-to_whole-clause-does
 returns-in-Err-to_whole-clause-does g c =
+    let puts =
+    PutsInto g.S.Store (g.C.Putting.room c.args.call) (g.C.Putting.asks c.args.call) (g.C.Putting.next c.args.call)
+    (g.C.Putting.finds c.args.call) (g.C.Putting.makes c.args.call) in
     not_put g.P.Pages g.S.Store g.S.Opens.gives g.S.Opens.refuses _ _ _ _ (string_bytes c.args.self.now.path) _ _ _
-    (Comes g.S.Store g.S.Opens.gives (Misfits g.S.Store (g.C.Putting.room c.args.call)
-    (g.C.Putting.asks c.args.call) (g.C.Putting.next c.args.call)) (λ part. part ≡ AsTrees c.args.trees))
+    (Comes g.S.Store g.S.Opens.gives (Misfits puts) (λ part. part ≡ AsTrees c.args.trees))
     c.in-Err-to_whole.cause c.requires.none
     (inr (inr (
       c.store.new.store,
@@ -104,7 +113,7 @@ returns-in-Err-to_whole-clause-does g c =
             (put_given g.S.Opens.gives c.give_up.result c.args.trees.pages c.in-Ok-Trees.field-0
             (Trees c.in-Ok-Trees.store) c.give_up.ensures
             c.in-Ok-Trees.field-0-is c.in-Ok-Trees.ensures.opened))
-            (misfits_so g.S.Store _ _ _ c.in-Ok-Trees.store c.store.new.store c.store.result c.in-Ok.done c.in-Ok.is
+            (misfits_so puts c.in-Ok-Trees.store c.store.new.store c.store.result c.in-Ok.done c.in-Ok.is
             c.if-done.false
             c.store.ensures)),
         c.in-Err-to_whole.ensures.refused,

@@ -14,6 +14,7 @@ returns-in-Whole-clause-does g c =
           subst (IsReadyToRead _ _ c.args.self.now.kept)
           c.in-Whole.is c.in-Ok.ensures.ready;
       does = c.ask-answer.ensures.does;
+      shown = c.ask-answer.ensures.shows;
       kept = c.unless_failed.ensures.held;
       says = c.unless_failed.ensures.says;
     }))

@@ -1,0 +1,57 @@
+-- Why a store of files refuses what is opened.
+use Rattle.std.specs.Prelude.{◌≡◌, ◌⊎◌, ◌&&◌, false, ℕ, List}
+use Rattle.sqlite_disk.specs.declared.Disk.{Ghosts}
+use Rattle.sqlite_disk.specs.declared.Files.{Files}
+use Rattle.sqlite_pool.specs.declared.pool.Pool.{Pool}
+use Rattle.sqlite_pool.specs.Pool as pool
+use Rattle.sqlite_store.specs.declared.store.FileStore.{FileStore}
+use Rattle.sqlite_store.specs.FileStore as store
+use Rattle.sqlite.specs.Files.{IsCleanLeft, FailsToOpenFiles, LeavesFiles}
+use Rattle.sqlite.specs.declared.error.Error.{Error}
+use Rattle.sqlite.specs.declared.file.Leftover.{Leftover}
+use Rattle.keep_files.specs.declared.cause.Cause.{Cause}
+use Rattle.keep_files.specs.declared.cause.Cause.TheVariants.{DiskFailed}
+use Rattle.keep_files.specs.Causes.{IsCauseOf}
+use Rattle.keep_files.specs.Files.{AreLeft}
+use Rattle.keep_files.specs.Openings.{Opening, FromPath, FromPages, FromStore}
+
+-- a database refused to open files with an error, which has that cause, and harmed nothing
+pub record IsRefusedBy {D : Type 0} (g : Ghosts D) (files : Files D) (cause : Cause) : Type 0 where
+  pub error : Error
+  pub left : Leftover D g
+  pub fails : IsCleanLeft left → FailsToOpenFiles files left error
+  pub harmless : IsCleanLeft left → LeavesFiles files left
+  pub names : IsCauseOf cause error
+
+-- an earlier failure left files not to be used
+abbrev pub AreSpent : {D : Type 0} (g : Ghosts D) → Files D → Cause → Type 0
+AreSpent g files cause = ((g.is_usable files.log && g.is_usable files.db) ≡ false) × (cause ≡ DiskFailed)
+
+module _ {D : Type 0} (g : Ghosts D) where
+  -- files were refused for a cause: they are not to be used, or a database refused to open them
+  abbrev pub AreRefused : Files D → Cause → Type 0
+  AreRefused files cause = AreSpent g files cause ⊎ IsRefusedBy g files cause
+
+  -- what a look for our trees left of files was refused
+  abbrev pub AreLeftRefused : Files D → Cause → Type 0
+  AreLeftRefused files cause = (left : Files D) × AreLeft g files left × AreRefused left cause
+
+  -- why files are not opened: no number is drawn, or they are refused
+  abbrev pub RefusesFiles : (Cause → Type 0) → Files D → Cause → Type 0
+  RefusesFiles draws files cause = draws cause ⊎ AreLeftRefused files cause
+
+  -- why the file at a path is not opened: the disk gives none, no number is drawn, or the files that it gives are
+  -- refused
+  abbrev pub RefusesPath : (List ℕ → Files D → Type 0) → (List ℕ → Cause → Type 0) → (Cause → Type 0) → List ℕ →
+      Cause → Type 0
+  RefusesPath reaches gives draws path cause =
+      gives path cause ⊎ (draws cause ⊎ ((files : Files D) × reaches path files × AreLeftRefused files cause))
+
+  -- why a store of files refuses what is opened: of pages and of a store it is their files that are refused
+  abbrev pub FileRefuses : (List ℕ → Files D → Type 0) → (List ℕ → Cause → Type 0) → (Cause → Type 0) →
+      Opening (Pool D g) (FileStore D g) → Cause → Type 0
+  FileRefuses reaches gives draws (FromPath path) cause = RefusesPath reaches gives draws path cause
+  FileRefuses reaches gives draws (FromPages pages) cause =
+      draws cause ⊎ ((files : Files D) × ((files.log, files.db) ≡ pool.files pages) × AreLeftRefused files cause)
+  FileRefuses reaches gives draws (FromStore it) cause =
+      draws cause ⊎ ((files : Files D) × ((files.log, files.db) ≡ store.files it) × AreLeftRefused files cause)
