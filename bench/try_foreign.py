@@ -44,6 +44,8 @@ COMMANDS = {
 }
 PUTS = ("tariff 0 50 40 5", "import 101", "renew 200")
 OF_A_DAY = ("day 100", "export 100", "import 100", "days")
+OF_TARIFFS = ("tariffs", "answers 100", "validate 100", "audit 100")
+OF_A_HISTORY = ("past 100", "import 100", "days")
 
 # the causes, as docs/FORMATS.md lists them
 IN_USE = "another program has it open"
@@ -90,6 +92,10 @@ ODD = {
     "no version": (ALL + [A_DAY, SEAL], COMMANDS, OTHER_VERSION),
     "a day without its seal": (ALL + [A_DAY, SECOND], OF_A_DAY, UNREADABLE),
     "a digest that is short": (ALL + [A_DAY, SEAL, SECOND, "UPDATE days SET digest = x'00'"], OF_A_DAY, UNREADABLE),
+    "a tariff of no expressway": (ALL + [A_DAY, SEAL, SECOND, "INSERT INTO tariffs VALUES (256, 50, 40, 5)"], OF_TARIFFS,
+                                  UNREADABLE),
+    "a history of base 69": (ALL + [SECOND, ("INSERT INTO past VALUES (1, 69, ?, 0, 0)", (DIGEST,))], OF_A_HISTORY,
+                             UNREADABLE),
 }
 OURS = ALL + [A_DAY, SEAL, SECOND]
 
