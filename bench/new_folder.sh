@@ -5,10 +5,10 @@
 #
 # PROGRAM is the executable toll_office, OLD the folder of the old tolls.db, NEW a folder that is not there yet. Each of
 # the 69 days is exported to a file of its own, and the status of each export is looked at. MISSING is how many of these
-# days you know are not kept, 0 if you leave it out; any other number of them stops the script, because export cannot tell
-# a day without traffic from a day that only a history has. The script stops at the first thing that is not as expected,
-# with status 1 and a line on standard error; then there is no folder NEW, and NEW.part has what was made so far.
-# OLD is only read.
+# days you know are not kept, 0 if you leave it out; any other number of them stops the script, because export cannot
+# tell a day without traffic from a day that only a history has, as each day below 70. The script stops at the first
+# thing that is not as expected, with status 1 and a line on standard error; then there is no folder NEW, and NEW.part
+# has what was made so far. OLD is only read.
 set -euo pipefail
 
 stop() {
@@ -45,6 +45,11 @@ absent=0
 for ((d = 69; d >= 1; d--)); do
     day=$((base - d))
     file="$part/days/$day.csv"
+    if [ "$day" -lt 70 ]; then
+        # only a history can have it, and no command exports that
+        absent=$((absent + 1))
+        continue
+    fi
     run "$old" "$file" export "$day"
     case $status in
     0)

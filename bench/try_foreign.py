@@ -3,13 +3,14 @@
 
     python3 bench/try_foreign.py PROGRAM
 
-PROGRAM is the executable toll_office. python's sqlite3 makes each file under the name of the kept file: a file of another
-hand, a mixture of tables, a later version, a kept day without its seal; others are no database, locked by another program,
-linked, not to be written to, or on a full disk. Each command that comes upon one must end with status 6 and the closing line
-of a keeper's fault, say the cause in one line on standard error, and leave the bytes of the file as they were. Beside them
-a file of version 1 and one without tables must be taken over and made, a source that fails and a close that fails must be
-said, and what goes well must be silent. A row of a user other than root or of a full disk is passed over where this script
-may not change the user or mount; it says so. The script ends with status 1 at the first difference.
+PROGRAM is the executable toll_office. python's sqlite3 makes each file under the name of the kept file: a file of
+another hand, a mixture of tables, a later version, a kept day without its seal; others are no database, locked by
+another program, linked, not to be written to, on a full disk, or in a folder that is gone. Each command that comes
+upon one must end with status 6 and the closing line of a keeper's fault, say the cause in one line on standard error,
+and leave the bytes of the file as they were. Beside them a file of version 1 and one without tables must be taken
+over and made, a source that fails and a close that fails must be said, and what goes well must be silent. A row of a
+user other than root or of a full disk is passed over where this script may not change the user or mount; it says so.
+The script ends with status 1 at the first difference.
 """
 import contextlib
 import os
@@ -55,6 +56,8 @@ NOT_PLAIN = "it is a link, a folder or a device, or has a second name"
 SPOILED = "a page of it is spoiled"
 NOT_OURS = "it is no database of these programs"
 OTHER_VERSION = "it is of another version than 2"
+ODD_ROW = "a row of it is not as these programs write it"
+UNOPENED = "it cannot be opened"
 UNREADABLE = "a page or a row of it is spoiled, or the disk failed"
 NO_ROOM = "there is no room for it on the disk"
 
@@ -92,6 +95,7 @@ ODD = {
     "no version": (ALL + [A_DAY, SEAL], COMMANDS, OTHER_VERSION),
     "a day without its seal": (ALL + [A_DAY, SECOND], OF_A_DAY, UNREADABLE),
     "a digest that is short": (ALL + [A_DAY, SEAL, SECOND, "UPDATE days SET digest = x'00'"], OF_A_DAY, UNREADABLE),
+    "a day without its seal, in pages of 512 bytes": (["PRAGMA page_size = 512"] + ALL + [A_DAY, SECOND], OF_A_DAY, ODD_ROW),
     "a tariff of no expressway": (ALL + [A_DAY, SEAL, SECOND, "INSERT INTO tariffs VALUES (256, 50, 40, 5)"], OF_TARIFFS,
                                   UNREADABLE),
     "a history of base 69": (ALL + [SECOND, ("INSERT INTO past VALUES (1, 69, ?, 0, 0)", (DIGEST,))], OF_A_HISTORY,
@@ -170,6 +174,20 @@ def replaced(kept):
     """A folder has the file's name."""
     kept.unlink()
     kept.mkdir()
+
+
+def gone(program):
+    """The folder in which the program runs was removed."""
+    for words in COMMANDS:
+        with tempfile.TemporaryDirectory() as outer:
+            folder = pathlib.Path(outer) / "gone"
+            folder.mkdir()
+            command = ["sh", "-c", 'rmdir "$PWD" && exec "$@"', "sh", program, *words.split()]
+            done = subprocess.run(command, cwd=folder, input=COMMANDS[words], capture_output=True, text=True)
+            got = (done.returncode, done.stdout, done.stderr)
+            if got != (6, "# keeper fault\n", f"toll_office: tolls.db: {UNOPENED}\n"):
+                fail(f"a folder that is gone, {words}: {got}")
+    print(f"said: a folder that is gone, by {len(COMMANDS)} commands")
 
 
 def in_use(program):
@@ -307,6 +325,7 @@ def main():
     beside(program, "a journal beside it", JOURNAL, lambda kept: kept.with_name("tolls.db-journal").write_bytes(b"\xd9"))
     beside(program, "a second name", NOT_PLAIN, linked)
     beside(program, "a folder", NOT_PLAIN, replaced)
+    gone(program)
     in_use(program)
     read_only(program)
     no_room(program)
