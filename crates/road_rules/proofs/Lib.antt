@@ -11,3 +11,4 @@ pub mod GatherLaws
 pub mod GroupLaws
 pub mod SumParts
 pub mod PaymentLaws
+pub mod MeetLaws

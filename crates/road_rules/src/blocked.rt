@@ -1,16 +1,18 @@
 // Which accident blocks a stretch, by when each vehicle stands where.
-ghost use Rattle.std.specs.Prelude.{◌≡◌, ◌≤◌, ◌-◌, IfOk};
+ghost use Rattle.std.specs.Prelude.{◌≡◌, ◌≤◌, ◌-◌, ◌==◌, ℕ, true, false, Some, IfOk, if◌then◌else◌};
+ghost use Rattle.std.specs.HashMap.{get};
+ghost use Rattle.road_time.specs.declared.road.Place.{Place as PlaceValue};
 ghost use Rattle.std.specs.List.{filter};
 ghost use Rattle.road_time.specs.Stops.{has_accident as defined_has_accident, stood as defined_stood, near};
-ghost use Rattle.road_time.specs.Tuples.{reports};
+ghost use Rattle.road_time.specs.Tuples.{reports, same_place};
 ghost use Rattle.road_rules.specs.Halts.{halting, halts_of, is_about as defined_is_about};
 ghost use Rattle.road_rules.specs.Gathered.{IsGathered};
 
 use crate::halts::{Halt, covers};
-use crate::near::has_accident;
 use crate::spots::Gathered;
 use road_time::{NoMemory, Place, Stretch, downstream};
 use std::alloc::Global;
+use std::collections::HashMap;
 
 /// The halt is in the stretch, and touches the minute that begins at the second.
 fn is_about(start: u32, stretch: Stretch, halt: &Halt) -> bool
@@ -82,6 +84,38 @@ pub fn standing(alloc: Global, halts: &[Halt], second: u32) -> Result<Vec<(u32, 
     )
 }
 
+/// Whether another vehicle is kept of the place. If none is, this one is kept.
+fn meets(firsts: &mut HashMap<Place, u32>, vid: u32, place: Place) -> Result<bool, NoMemory>
+    ensures met { IfOk result (λ met. met ≡ true
+        → (v : ℕ) × (get same_place firsts.old place ≡ Some v) × ((vid == v) ≡ false)) }
+    ensures fits { IfOk result (λ met. met ≡ false → (v : ℕ) → get same_place firsts.old place ≡ Some v → v ≡ vid) }
+    ensures kept { IfOk result (λ met. met ≡ false → (p : PlaceValue) → get same_place firsts.new p
+        ≡ (if same_place place p then Some vid else get same_place firsts.old p)) }
+{
+    match firsts.get(&place).copied() {
+        Some(first) => Ok(vid != first),
+        None => {
+            firsts.insert(place, vid)?;
+            Ok(false)
+        }
+    }
+}
+
+/// Two vehicles stand at one place of the stretch: one pass over those that stand.
+fn has_meeting(alloc: Global, stops: &[(u32, Place)], stretch: Stretch) -> Result<bool, NoMemory>
+    ensures { IfOk result (λ b. b ≡ defined_has_accident stops.now stretch) }
+{
+    let mut firsts: HashMap<Place, u32> = HashMap::new(alloc);
+    for stop in stops {
+        if stop.1.stretch() == stretch {
+            if meets(&mut firsts, stop.0, stop.1)? {
+                return Ok(true);
+            }
+        }
+    }
+    Ok(false)
+}
+
 /// An accident stands in the stretch at the end of the second.
 fn accident_by(
     alloc: Global,
@@ -92,7 +126,10 @@ fn accident_by(
     ensures { IfOk result (λ b. b ≡ defined_has_accident (halting halts.now second) stretch) }
 {
     let some = standing(alloc, halts, second)?;
-    Ok(has_accident(some.as_slice(), stretch))
+    match has_meeting(alloc, some.as_slice(), stretch) {
+        Ok(met) => Ok(met),
+        Err(error) => Err(error),
+    }
 }
 
 /// At some second of the minute an accident stood in the stretch.

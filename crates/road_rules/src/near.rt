@@ -82,7 +82,7 @@ fn has_partner(stops: &[(u32, Place)], vid: u32, place: Place) -> bool
 }
 
 /// Two vehicles stand at one place of the stretch.
-pub fn has_accident(stops: &[(u32, Place)], stretch: Stretch) -> bool
+fn has_accident(stops: &[(u32, Place)], stretch: Stretch) -> bool
     ensures { result ≡ defined_has_accident stops.now stretch }
 {
     stops.iter().any(|a| a.1.stretch() == stretch && has_partner(stops, a.0, a.1))
