@@ -11,6 +11,7 @@ _toll_office() {
     answers | import) options="--late --workers --turns --backlog" ;;
     check | validate | accidents) options="--late" ;;
     audit) options="--late --shards --workers --show --any-order" ;;
+    renew) options="--drop" ;;
     generate) options="--vehicles --minutes --xways --crashes" ;;
     rehearse) options="--vehicles --minutes --xways --crashes --late --workers --turns --backlog" ;;
     esac
