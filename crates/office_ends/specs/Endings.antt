@@ -17,11 +17,15 @@ ending_of dropped unfit (ends.Renewed kept) = Begun kept.base kept.rows dropped
 ending_of dropped unfit (ends.Early last) = Early last
 ending_of dropped unfit ends.Unfit = Unfit unfit
 
+-- how it ends where a call fails
+abbrev pub failing : KeepFault → Ending
+failing keeping.Failed = KeeperFault
+failing keeping.NoMemory = NoMemory
+
 -- the same where a call may have failed
 abbrev pub ending_by : ℕ → Option SpentRow → Result Renewal KeepFault → Ending
 ending_by dropped unfit (Ok outcome) = ending_of dropped unfit outcome
-ending_by dropped unfit (Err keeping.Failed) = KeeperFault
-ending_by dropped unfit (Err keeping.NoMemory) = NoMemory
+ending_by dropped unfit (Err fault) = failing fault
 
 -- the line of an office that began anew
 abbrev pub begun_line : ℕ → ℕ → ℕ → List ℕ

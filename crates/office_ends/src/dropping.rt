@@ -69,11 +69,14 @@ fn first_unfit(base: u32, rows: &[SpentRow]) -> Option<SpentRow>
     requires { 70 ≤ base }
     ensures { result ≡ first_unfit base rows.now }
 {
-    let found = rows.iter().find(|row| !is_fit(base, row));
-    match found {
-        Some(row) => Some(*row),
-        None => None,
+    let mut left = rows;
+    while let Some((row, rest)) = left.split_first() {
+        if !is_fit(base, row) {
+            return Some(*row);
+        }
+        left = rest;
     }
+    None
 }
 
 /// The first of the amounts that a renewal at a base would keep which a history may not have.

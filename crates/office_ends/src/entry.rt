@@ -2,12 +2,13 @@
 ghost use Rattle.std.specs.Prelude.{◌≡◌, ◌≢◌, ◌≤◌, Some};
 ghost use Rattle.road_io.specs.Blame.{FaultsByPlan, FaultsByRoom};
 ghost use Rattle.keep_office.specs.Office.{Office};
-ghost use Rattle.keep_office.specs.Renewals.{IsRenewedOr};
+ghost use Rattle.keep_office.specs.Renewals.{HaltsRenewal, IsRenewedOr, renew_answer};
+ghost use Rattle.keep_office.specs.declared.kept.KeepFault.{KeepFault as KeepFaultValue};
 ghost use Rattle.day_import.specs.Faults.{FaultsBeside};
 ghost use Rattle.office_ends.specs.declared.ending.Ending.{Ending as EndingValue};
 ghost use Rattle.office_ends.specs.declared.ending.Ending.TheVariants.{KeeperFault};
 ghost use Rattle.office_ends.specs.Drops.{anew, command_answer, DoesCommand, DoesEnding};
-ghost use Rattle.office_ends.specs.Endings.{status_of, Closes};
+ghost use Rattle.office_ends.specs.Endings.{failing, status_of, Closes};
 
 use crate::dropping::{dropped, find_unfit, is_named};
 use crate::ending::{Ending, ended};
@@ -35,6 +36,8 @@ fn begun<K: Renews>(alloc: Global, base: u32, count: u64, keeper: &mut K) -> End
     ensures does { (o : Office) → K.Keeper.told keeper.old ≡ Some o
         → DoesEnding (anew count base o) (K.Keeper.told keeper.new) result }
     ensures whole { (o : Office) → K.Keeper.told keeper.old ≡ Some o → IsRenewedOr base o (K.Keeper.told keeper.new) }
+    ensures halts { (o : Office) (fault : KeepFaultValue) → K.Keeper.told keeper.old ≡ Some o → result ≡ failing fault
+        → HaltsRenewal K.Keeper.refuses fault (renew_answer base o) o (K.Keeper.told keeper.new) }
     ensures keeper { FaultsByPlan (K.Keeper.faults keeper.old) (K.Keeper.faults keeper.new) (K.Keeper.plan keeper.old)
         (result ≡ KeeperFault) }
 {
@@ -54,6 +57,8 @@ fn renewed<K: Renews>(alloc: Global, base: u32, named: Option<u64>, keeper: &mut
     ensures does { (o : Office) → K.Keeper.told keeper.old ≡ Some o
         → DoesEnding (command_answer named base o) (K.Keeper.told keeper.new) result }
     ensures whole { (o : Office) → K.Keeper.told keeper.old ≡ Some o → IsRenewedOr base o (K.Keeper.told keeper.new) }
+    ensures halts { (o : Office) (fault : KeepFaultValue) → K.Keeper.told keeper.old ≡ Some o → result ≡ failing fault
+        → HaltsRenewal K.Keeper.refuses fault (renew_answer base o) o (K.Keeper.told keeper.new) }
     ensures keeper { FaultsByPlan (K.Keeper.faults keeper.old) (K.Keeper.faults keeper.new) (K.Keeper.plan keeper.old)
         (result ≡ KeeperFault) }
 {
@@ -86,6 +91,9 @@ pub fn begin_anew<O: Sink, K: Renews>(
         (O.written sink.new) }
     ensures says { (e : EndingValue) × Closes e result (O.written sink.old) (O.written sink.new) }
     ensures whole { (o : Office) → K.Keeper.told keeper.old ≡ Some o → IsRenewedOr base o (K.Keeper.told keeper.new) }
+    ensures halts { (o : Office) (fault : KeepFaultValue) → K.Keeper.told keeper.old ≡ Some o
+        → result ≡ status_of (failing fault)
+        → HaltsRenewal K.Keeper.refuses fault (renew_answer base o) o (K.Keeper.told keeper.new) }
     ensures sink { FaultsByRoom (O.faults sink.old) (O.faults sink.new) (O.room sink.old) (O.room sink.new)
         (result ≡ 5) }
     ensures keeper { FaultsBeside (K.Keeper.faults keeper.old) (K.Keeper.faults keeper.new) (K.Keeper.plan keeper.old)

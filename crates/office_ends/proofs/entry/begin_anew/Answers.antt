@@ -1,7 +1,7 @@
 use Rattle.std.proofs.Common.{◌∙◌, ap, sym, arith}
 use Rattle.office_ends.specs.Drops.{command_answer}
 use Rattle.office_ends.specs.Endings.{status_of}
-use Rattle.office_ends.proofs.EndingLaws.{does, is_fault}
+use Rattle.office_ends.proofs.EndingLaws.{does, high, is_failing, is_fault}
 use Rattle.office_ends.proofs.entry.begin_anew.Goals as goal
 
 pub returns-clause-does : goal.returns-clause-does
@@ -24,3 +24,8 @@ returns-clause-keeper g c =
       sure = λ never is. f.sure never (is_fault c.renewed-ending.result
           (sym (c.close.ensures.status (λ e. omega (arith, is, e))) ∙ is));
     }
+
+pub returns-clause-halts : goal.returns-clause-halts
+returns-clause-halts g c = λ o fault told is.
+    c.renewed-ending.ensures.halts o fault told (is_failing c.renewed-ending.result fault
+    (sym (c.close.ensures.status (λ five. omega (arith, high fault, is, five))) ∙ is))
