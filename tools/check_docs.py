@@ -5,9 +5,9 @@
 
 Looked at are README, CHANGELOG and docs. A link must lead to a file of the repository. A path in backticks that begins with
 `crates/`, `docs/` or one of the rooms (`bench/`, `tools/`, `trials/`, `examples/`, `scripts/`) must be there. The code that README
-and PROOF show must stand in the file that they name, and the tables of FORMATS in the definitions. No line but of a table, a
-picture or a block is longer than 128 characters. The script ends with status 1 if anything is wrong. It proves nothing and runs no
-program of the office; trials/try_docs.py does.
+and PROOF show must stand in the file that they name, and the tables and words of FORMATS in the definitions. No line but of a
+table, a picture or a block is longer than 128 characters. The script ends with status 1 if anything is wrong. It proves nothing and
+runs no program of the office; trials/try_docs.py does.
 """
 import re
 import subprocess
@@ -46,8 +46,15 @@ def tables_differ():
     return [] if block and block[1].splitlines() == "\n".join(tables().values()).splitlines() else ["docs/FORMATS.md: other tables"]
 
 
+def words_missing():
+    """The words of the last table of FORMATS that are not in the files beside them."""
+    rows = re.findall(r"^\|[^|]*\|([^|]*)\| `(crates/[\w/]+\.antt)` \|$", (TOP / "docs/FORMATS.md").read_text(), re.M)
+    named = [(word, path) for words, path in rows for word in re.findall(r"`(\w+)`", words)]
+    return [f"docs/FORMATS.md: no {word} in {path}" for word, path in named if not re.search(rf"\b{word}\b", (TOP / path).read_text())]
+
+
 def main():
-    wrong = shown("README.md") + shown("docs/PROOF.md") + tables_differ()
+    wrong = shown("README.md") + shown("docs/PROOF.md") + tables_differ() + words_missing()
     for name, *words in OTHERS:
         ran = subprocess.run([sys.executable, TOP / "tools" / name, *words], text=True, stdout=subprocess.PIPE,
                              stderr=subprocess.STDOUT)
