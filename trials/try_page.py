@@ -1,13 +1,13 @@
 #!/usr/bin/env python3
 """Makes pictures of the page to watch the day by, in headless Chromium, and looks whether it shows what it is told.
 
-    python3 trials/try_page.py [--server http://127.0.0.1:PORT] [--out FOLDER] [--chromium PROGRAM]
+    python3 trials/try_page.py [--looks] [--server http://127.0.0.1:PORT] [--out FOLDER] [--chromium PROGRAM]
 
 Without `--server` the page is served by a small stand-in in this script, which answers `/`, `/live`, `/live/{vid}` and
 `/days` as the server does; the page is taken from the constants of `crates/serve_requests/src/page`. Pictures are made of an
 empty office, of a day that is going on (also in the dark and on a narrow window), of ten kept days, of a database that
 cannot be read, and of a server that has stopped.
-With `--server` one picture is made of what that server shows. Needs `chromium` (`apt-get install chromium`). The script ends
+With `--looks` no picture is kept. With `--server` one picture is made of what that server shows. Needs `chromium` (`apt-get install chromium`). The script ends
 with status 1 if the page does not show what the stand-in told, in the page as Chromium has built it.
 """
 import argparse
@@ -139,13 +139,15 @@ def expect(what, text, wanted):
 
 def main():
     words = argparse.ArgumentParser()
+    words.add_argument("--looks", action="store_true")
     words.add_argument("--server")
     words.add_argument("--out", default=str(TOP / "docs/pictures"))
     words.add_argument("--chromium", default=shutil.which("chromium") or shutil.which("chromium-browser"))
     asked = words.parse_args()
     if asked.chromium is None:
         sys.exit("no chromium: apt-get install chromium")
-    out = pathlib.Path(asked.out)
+    room = tempfile.TemporaryDirectory()
+    out = pathlib.Path(room.name if asked.looks else asked.out)
     out.mkdir(parents=True, exist_ok=True)
     wide, narrow = (1100, 900), (420, 1250)
     if asked.server:
