@@ -5,9 +5,9 @@
 
 Looked at are README, CHANGELOG and docs. A link must lead to a file of the repository. A path in backticks that begins with
 `crates/`, `docs/` or one of the rooms (`bench/`, `tools/`, `trials/`, `examples/`, `scripts/`) must be there. The code that
-PROOF shows must stand in the file that it names, and the tables of FORMATS in the definitions. No line but of a table, a
-picture or a block is longer than 128 characters, and README has 120 lines at most. The script ends with status 1 if anything
-is wrong. It proves nothing and runs no program; trials/try_docs.py does. `.ci/run --documents` runs the other checks too.
+README and PROOF show must stand in the file that they name, and the tables and words of FORMATS in the definitions. No line but
+of a table, a picture or a block is longer than 128 characters. The script ends with status 1 if anything is wrong. It proves
+nothing and runs no program; trials/try_docs.py does. `.ci/run --documents` runs the other checks too.
 """
 import re
 import sys
@@ -19,10 +19,10 @@ sys.path.append(str(TOP / "trials"))
 from office import tables  # noqa: E402
 
 
-def shown():
-    """Lines of code in PROOF that are not in the file named before them, or, where they are new, in no edit of its crate."""
+def shown(page):
+    """Lines of code in a page that are not in the file named before them, or, where they are new, in no edit of its crate."""
     wrong, path, code = [], None, False
-    for at, line in enumerate((TOP / "docs/PROOF.md").read_text().splitlines(), 1):
+    for at, line in enumerate((TOP / page).read_text().splitlines(), 1):
         if line.startswith("```"):
             code = line == "```text"
         elif not code:
@@ -30,9 +30,9 @@ def shown():
             path = named[-1] if named else path
         elif line.startswith("+"):
             if not any(line[1:] in pair.new for it in edits_of(path.parent.parent.name) for pair in it.pairs):
-                wrong.append(f"docs/PROOF.md:{at}: no edit has {line}")
+                wrong.append(f"{page}:{at}: no edit has {line}")
         elif line.lstrip("-").strip() not in {it.strip() for it in path.read_text().splitlines()}:
-            wrong.append(f"docs/PROOF.md:{at}: {path.name} has not {line}")
+            wrong.append(f"{page}:{at}: {path.name} has not {line}")
     return wrong
 
 
@@ -42,11 +42,15 @@ def tables_differ():
     return [] if block and block[1].splitlines() == "\n".join(tables().values()).splitlines() else ["docs/FORMATS.md: other tables"]
 
 
+def words_missing():
+    """The words of the last table of FORMATS that are not in the files beside them."""
+    rows = re.findall(r"^\|[^|]*\|([^|]*)\| `(crates/[\w/]+\.antt)` \|$", (TOP / "docs/FORMATS.md").read_text(), re.M)
+    named = [(word, path) for words, path in rows for word in re.findall(r"`(\w+)`", words)]
+    return [f"docs/FORMATS.md: no {word} in {path}" for word, path in named if not re.search(rf"\b{word}\b", (TOP / path).read_text())]
+
+
 def main():
-    wrong = shown() + tables_differ()
-    lines = len((TOP / "README.md").read_text().splitlines())
-    if lines > 120:
-        wrong.append(f"README.md: {lines} lines")
+    wrong = shown("README.md") + shown("docs/PROOF.md") + tables_differ() + words_missing()
     for page in [*PAGES, TOP / "CHANGELOG.md"]:
         where, code = page.relative_to(TOP), False
         text = page.read_text()

@@ -94,8 +94,8 @@ def speed_figure():
     it = max(imports, key=lambda it: int(it["lines"]))
     base = next(float(of["wall"]) for of in runs if of["day"] == it["day"] and of["command"] == "sha256sum")
     seconds, date = int(it["lines"]) * float(it["wall"]) / 1e9, re.search(r"\d{4}-\d\d-\d\d", where)[0]
-    said = (f"When last measured ({date}), `import` of a day of {int(it['lines']):,} lines took {seconds:.0f} seconds and "
-            f"{it['megabytes']} MB, {float(it['wall']) / base:.1f} times as long as `sha256sum` of the same file. This is one "
+    said = (f"When last measured ({date}), `import` of a day of {int(it['lines']):,} lines took {seconds:.1f} seconds and "
+            f"{it['megabytes']} MB, {float(it['wall']) / base:.2f} times as long as `sha256sum` of the same file. This is one "
             f"machine's figure, and nothing of it is proved; [PERFORMANCE](docs/PERFORMANCE.md) has the method.")
     return textwrap.fill(said, 120, break_on_hyphens=False, break_long_words=False)
 
