@@ -642,7 +642,8 @@ def try_handles(program, folder):
 
 def try_line(program, folder):
     """One reader: ten POSTs wait behind one whose body is held back, beside clients that ask. Of two more in line the clients
-    vanish, one with its whole day sent: nothing of theirs is kept. Those that are refused at once do not wait."""
+    vanish, one with its whole day sent: nothing of theirs is kept. Those that are refused at once do not wait,
+    and those whose heads do not end are let go after their 10 seconds."""
     server = Server(program, folder, 3_000, readers=1)
     expect("the first day", server.ask("POST", "/days/100", b"")[0], 200)
     wire = server.connect()
@@ -660,7 +661,15 @@ def try_line(program, folder):
     expect("a POST to a live path beside the line", server.ask("POST", "/live", b"")[0], 405)
     if time.monotonic() - begin > AT_ONCE:
         fail("POSTs that are refused at once waited in line")
+    began = time.monotonic()
+    begun = [server.connect(SILENCE) for _ in range(20)]
+    for each in begun:
+        each.sendall(b"POST /days/9")
     answers, most = slowest(work(server, ["/live", "/days/100", "/spent/100/0/1"], 3))
+    expect("POSTs whose heads do not end, beside one that is held back", [all_of(each) for each in begun], [b""] * len(begun))
+    let_go = time.monotonic() - began
+    if let_go > HEAD_SECONDS + 2:
+        fail(f"POSTs whose heads do not end were let go after {let_go:.1f} s")
     wire.sendall(LATE[-1:])
     expect("the POST that was held", all_of(wire).split(b"\r\n")[0], b"HTTP/1.1 422 Unprocessable Entity")
     wire.close()
@@ -673,7 +682,7 @@ def try_line(program, folder):
     expect("the POSTs in line", {post.answer for post in line}, {(409, "Conflict", '{"error":"passed","last":100}')})
     expect("the day of those that vanished", server.ask("GET", "/days/102")[0], 404)
     print(f"one reader, a POST that is held back and ten behind it: {answers} answers meanwhile, the slowest {most:.1f} ms;"
-          f" the ten were answered within {lasted * 1000:.0f} ms after it; what two sent that vanished in line is not kept")
+          f" twenty whose heads do not end were let go within {let_go:.1f} s; the ten were answered within {lasted * 1000:.0f} ms after it; what two sent that vanished in line is not kept")
     server.end()
 
 
