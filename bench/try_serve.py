@@ -6,9 +6,9 @@
 PROGRAM is the executable `toll_serve`. The server runs in a new folder, on a free port of this machine. Asked are: every
 path and every refusal, with the whole answer; the notices of a day that `curl` sends slowly; a day of several expressways, whose amounts are those of `plain.c`; refused requests with bodies that nobody reads; requests as a page of the web
 sends them; a day of so many lines, posted while four clients read the live board; so many kept days one after another; a
-slow client and a silent one beside three that work; a thousand silent ones, and fifty whose heads come a byte a second; more
+slow client and a silent one beside three that work; six hundred silent ones, and fifty whose heads come a byte a second; more
 connections than there are file handles; 200 faults of accept, and threads that cannot be had; POSTs in line behind one, of
-which some clients leave; a day of so many lines again, posted beside a thousand silent clients and ten POSTs in line, while
+which some clients leave; a day of so many lines again, posted beside 650 silent clients and ten POSTs in line, while
 others ask for live totals and kept amounts; a POST of a passed day and one of a refused day, whose bodies of some MB come slowly, and
 a client that does not take its answer, beside the next POST; clients that are answered and go on sending; a POST whose body comes a byte a second,
 and one whose body is held back, beside clients that ask for what is kept; clients that vanish; a kill -9 at moments of a POST. The
@@ -41,7 +41,7 @@ SILENCE = 30
 AT_ONCE = 1.0
 REFUSED_BODY = 5_000_000
 HEAD_SECONDS = 10
-SILENT = 1000
+SILENT = 650
 TRICKLING = 50
 FEW_HANDLES = 40
 KILLS = 50
@@ -585,7 +585,7 @@ class Trickler(threading.Thread):
 
 
 def try_silent(program, folder):
-    """A thousand clients that connect and are silent, and fifty that send a byte a second, beside one that asks."""
+    """650 clients that connect and are silent, and fifty that send a byte a second, beside one that asks."""
     hard = resource.getrlimit(resource.RLIMIT_NOFILE)[1]
     resource.setrlimit(resource.RLIMIT_NOFILE, (min(4096, hard), hard))
     server = Server(program, folder, 2_500)
@@ -761,7 +761,7 @@ class Asker(threading.Thread):
 
 
 def try_beside(program, folder, path):
-    """A thousand silent clients and ten POSTs in line beside a POST of a whole day: live totals and kept amounts at once."""
+    """650 silent clients and ten POSTs in line beside a POST of a whole day: live totals and kept amounts at once."""
     lines = lines_in(path)
     server = Server(program, folder, 5_000)
     expect("the first day", server.ask("POST", "/days/100", charged_day())[0], 200)
