@@ -125,7 +125,7 @@ def main():
     words.add_argument("--workers", default="1,2,4")
     words.add_argument("--runs", type=int, default=3)
     words.add_argument("--folder", type=pathlib.Path, default=pathlib.Path(tempfile.gettempdir()) / "days")
-    words.add_argument("--csv", type=pathlib.Path, help="write the runs to this file too, as bench/write_docs.py reads them")
+    words.add_argument("--csv", type=pathlib.Path, help="write the runs to this file too, as tools/write_docs.py reads them")
     given = words.parse_args()
     given.folder.mkdir(parents=True, exist_ok=True)
     program = str(given.program.resolve())

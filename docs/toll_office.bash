@@ -1,5 +1,5 @@
 # Completion for bash: of the commands and options of toll_office, and the options of toll_serve.
-# Use it by `source docs/toll_office.bash`. bench/check_words.py compares it with the grammar.
+# Use it by `source docs/toll_office.bash`. tools/check_words.py compares it with the grammar.
 
 _toll_office() {
     local word=${COMP_WORDS[COMP_CWORD]} options=

@@ -1,0 +1,129 @@
+#!/usr/bin/env python3
+"""Counts how large the house is: crates, lines, clauses and which of them stand twice, files, and the walk of a byte.
+
+    python3 tools/count_house.py [--names] [TOP]
+
+A clause is a `requires` or an `ensures` with its name and its braces, or a ghost member of a trait or a type; its lines are
+those that it takes in its file. A clause line is a repeat if the same clause, blanks apart, stood earlier. The walk is that of
+a byte from standard input to a notice, where a day is answered in rounds: the calls and returns of WALK in their order, each in
+the crate that has it now; it crosses a border where the next is in another crate. With --names files and definitions are named,
+not counted alone. It proves nothing and changes nothing.
+"""
+import argparse
+import collections
+import pathlib
+import re
+import sys
+
+# The calls that a byte goes through, in their order: TYPE::FUNCTION, or FUNCTION with a piece of the path that it stands in; of
+# several with a bar between them the first that is there.
+WALK = """
+main@toll_office run_office@ office@entry read_words@words perform@performing import@importing import_new@importing
+import_later@importing import_begun@ import_under@ run_day@ run_opened@ run_plan@ run_rounds@ next_round@ round@rounds
+work_round@ read_on@reading gather@reading next@day_ahead next@day_reader advance@cutter read@source next@day_reader
+add@consumed add@beside_digester add@beside_digester take@intake read_line@ admit@gatekeeper Sorter::put take@sorter
+take@intake next@day_reader next@day_ahead gather@reading read_on@reading work_round@ feed_these@ feed@floor
+feed_report@ see@tracker feed_report@ of_report@ feed@floor give_all@work give_one@ give@floor give_one@
+start_beside@ start@inline_crew run@job next@carriage next@parts see@parts advance@parts advance@stops see@parts
+tell@parts find_if@ find_anew@ Speeds::cars find_anew@ nearest@stops find_anew@ toll@formula find_anew@ tell@parts
+run@job start@inline_crew start_beside@ give_one@ finish_firsts@ finish_one@ finish_among@ finish@inline_crew
+finish_one@ back@floor back@inboxes fill@slots said@slot fill@slots fill@slot back@floor round@rounds settle_done@
+settle@floor settle@publishing write_run@ settle_run@ settle_next@ settle_slot@ settle_report@ charge@booking
+Book::charge settle_report@ notify@booking Book::notify settle_report@ put_told@printer put_notice@ flush@printer
+hand_on@handing|put_all@sink write@sink
+"""
+CLAUSE = re.compile(r"^\s*(?:requires|ensures|ghost (?!use\b))\b")
+
+
+def sources(top, ending, place):
+    return [it for it in sorted(top.glob(f"crates/*/{place}/**/*{ending}")) if "out" not in it.relative_to(top).parts]
+
+
+def clauses(text):
+    """Each clause of a source, with its lines and its text without blanks."""
+    lines, at = text.splitlines(), 0
+    while at < len(lines):
+        if CLAUSE.match(lines[at]):
+            end, depth = at, 0
+            while True:
+                depth += lines[end].count("{") - lines[end].count("}")
+                if depth <= 0 or end + 1 == len(lines):
+                    break
+                end += 1
+            yield at, end - at + 1, re.sub(r"\s+", " ", " ".join(lines[at:end + 1])).strip().rstrip(";,")
+            at = end
+        at += 1
+
+
+def station(top, said, cache):
+    """The crate of a call of the walk."""
+    kind, _, name = said.rpartition("::")
+    name, _, piece = name.partition("@")
+    for path, text in cache:
+        where = str(path.relative_to(top))
+        if "_rows/" in where or "/tests_" in where or "/example_" in where:
+            continue
+        if not re.search(rf"\bfn {name}\b", text) or (piece and not re.search(rf"(?:^|[/_]){piece}(?:[/_.]|$)", where)):
+            continue
+        if not kind or re.search(rf"\bimpl\b[^{{;]*\b{kind}\b", text):
+            return where.split("/")[1]
+    return None
+
+
+def main():
+    words = argparse.ArgumentParser()
+    words.add_argument("--names", action="store_true")
+    words.add_argument("top", nargs="?", type=pathlib.Path, default=pathlib.Path(__file__).resolve().parent.parent)
+    given = words.parse_args()
+    top, long_lines, long_files, no_head = given.top.resolve(), [], [], []
+    names = [line.split(":")[0].split()[0] for line in (top / "crates.txt").read_text().splitlines()
+             if line.strip() and not line.startswith("#")]
+    tests = [it for it in names if it.endswith("_rows") or it.startswith(("tests_", "example_", "kept_in_memory"))]
+    print(f"crates: {len(names)}, of which {len(tests)} are of tests and examples")
+    total = collections.Counter()
+    for place, ending in (("src", ".rt"), ("specs", ".antt"), ("proofs", ".antt")):
+        paths = sources(top, ending, place)
+        for path in paths:
+            lines = path.read_text().splitlines()
+            total[place] += len(lines)
+            if len(lines) > 300:
+                long_files.append(f"{path.relative_to(top)}: {len(lines)}")
+            long_lines += [f"{path.relative_to(top)}:{at}" for at, line in enumerate(lines, 1) if len(line) > 120]
+            if place == "specs" and path.name != "Lib.antt" and not lines[0].startswith("--"):
+                no_head.append(str(path.relative_to(top)))
+        print(f"{place}: {len(paths)} files, {total[place]} lines")
+    print(f"together: {sum(total.values())} lines")
+    seen, count, repeats, again, how = set(), 0, 0, 0, collections.Counter()
+    for path in sources(top, ".rt", "src"):
+        for _, lines, text in clauses(path.read_text()):
+            count += lines
+            again += 1
+            how[text] += 1
+            if text in seen:
+                repeats += lines
+            seen.add(text)
+    print(f"clauses: {again} in {count} lines; {repeats} lines are repeats ({again - len(seen)} clauses)")
+    if given.names:
+        for text, times in how.most_common(40):
+            print(f"    {times} times: {text[:160]}")
+    cache = [(path, path.read_text()) for path in sources(top, ".rt", "src")]
+    gone, walk = [], []
+    for said in WALK.split():
+        crate = next((it for it in (station(top, one, cache) for one in said.split("|")) if it), None)
+        if crate is None:
+            gone.append(said)
+        elif not walk or walk[-1] != crate:
+            walk.append(crate)
+    print(f"the walk of a byte: {len(walk) - 1} borders" + (f"; not found: {' '.join(gone)}" if gone else ""))
+    if given.names:
+        print("    " + " ".join(walk))
+    for what, found in (("files over 300 lines", long_files), ("lines over 120 characters", long_lines),
+                        ("definition files without a head line", no_head)):
+        print(f"{what}: {len(found)}")
+        if given.names:
+            print("".join(f"    {it}\n" for it in found), end="")
+    sys.exit(0)
+
+
+if __name__ == "__main__":
+    main()
