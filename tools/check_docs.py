@@ -1,16 +1,15 @@
 #!/usr/bin/env python3
-"""Checks the documents: what scripts write is up to date, words are those of the grammar, rows and links are where they say.
+"""Checks the documents: their links and paths, the lengths of their lines, and the code and tables that they show.
 
     python3 tools/check_docs.py
 
 Looked at are README, CHANGELOG and docs. A link must lead to a file of the repository. A path in backticks that begins with
-`crates/`, `docs/` or one of the rooms (`bench/`, `tools/`, `trials/`, `examples/`, `scripts/`) must be there. The code that README
-and PROOF show must stand in the file that they name, and the tables and words of FORMATS in the definitions. No line but of a
-table, a picture or a block is longer than 128 characters. The script ends with status 1 if anything is wrong. It proves nothing and
-runs no program of the office; trials/try_docs.py does.
+`crates/`, `docs/` or one of the rooms (`bench/`, `tools/`, `trials/`, `examples/`, `scripts/`) must be there. The code that
+README and PROOF show must stand in the file that they name, and the tables and words of FORMATS in the definitions. No line but
+of a table, a picture or a block is longer than 128 characters. The script ends with status 1 if anything is wrong. It proves
+nothing and runs no program; trials/try_docs.py does. `.ci/run --documents` runs the other checks too.
 """
 import re
-import subprocess
 import sys
 
 from edits import edits_of
@@ -18,9 +17,6 @@ from write_docs import PAGES, TOP
 
 sys.path.append(str(TOP / "trials"))
 from office import tables  # noqa: E402
-
-OTHERS = [["write_docs.py", "--check"], ["pictures.py", "--check"], ["check_words.py"], ["check_rows.py"],
-          ["check_traffic.py"], ["check_clauses.py"], ["check_heads.py"], ["../trials/try_completion.py"]]
 
 
 def shown(page):
@@ -55,12 +51,6 @@ def words_missing():
 
 def main():
     wrong = shown("README.md") + shown("docs/PROOF.md") + tables_differ() + words_missing()
-    for name, *words in OTHERS:
-        ran = subprocess.run([sys.executable, TOP / "tools" / name, *words], text=True, stdout=subprocess.PIPE,
-                             stderr=subprocess.STDOUT)
-        print(f"{name}: {ran.stdout.strip()}")
-        if ran.returncode:
-            wrong.append(name)
     for page in [*PAGES, TOP / "CHANGELOG.md"]:
         where, code = page.relative_to(TOP), False
         text = page.read_text()

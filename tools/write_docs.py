@@ -1,7 +1,7 @@
 #!/usr/bin/env python3
-"""Writes what the documents have from other files: the kit's name from the file KIT, the trusted libraries and the table of
-crates from crates.txt and the crates' own first sentences, the table of speed from bench/speed.csv, the counts of runs that
-want memory from bench/memory.csv, and the index of tests.
+"""Writes what the documents have from other files: the kits that the gate passed with from the file KIT, the trusted libraries
+and the table of crates from crates.txt and the crates' own first sentences, the table of speed from bench/speed.csv, the counts
+of runs that want memory from bench/memory.csv, and the index of tests.
 
     python3 tools/write_docs.py [--check]
 
@@ -140,9 +140,14 @@ PIECES = {"trusted libraries": trusted, "crates": crate_table, "speed": speed_ta
           "memory": memory_counts, "tests": index}
 
 
-def written(text, kit):
-    """A page with the kit's name and each piece as they are now."""
-    text = re.sub(r"rattle-kit-[0-9]+[a-z]*", kit, text)
+def kits():
+    """The kits that the gate passed with, as a sentence has them."""
+    return " or ".join(f"`{it}`" for it in (TOP / "KIT").read_text().split())
+
+
+def written(text):
+    """A page with the kits' names and each piece as they are now."""
+    text = re.sub(r"`rattle-kit-\w+`(?: or `rattle-kit-\w+`)*", kits(), text)
     for name, piece in PIECES.items():
         mark = f"<!-- {name}, by tools/write_docs.py -->\n"
         if mark in text:
@@ -159,11 +164,10 @@ def main():
     words = argparse.ArgumentParser()
     words.add_argument("--check", action="store_true")
     given = words.parse_args()
-    kit = (TOP / "KIT").read_text().split()[0]
     changed = []
     for page in PAGES:
         old = page.read_text()
-        new = written(old, kit)
+        new = written(old)
         if new != old:
             changed.append(page.relative_to(TOP))
             if not given.check:

@@ -27,7 +27,7 @@ from office import TOP, free_port
 
 PAGES = ["README.md", "docs/USE.md", "docs/HTTP.md", "docs/FORMATS.md", "docs/PROOF.md", "docs/RULES.md"]
 MARK = "--- the end of a command ---"
-GATE = "rt ci"
+GATE = ".ci/run"
 FIRST = 'mkdir "$OLD/room" && cp "$OLD"/crates/example_office/data/*.csv "$OLD/room" && cd "$OLD/room"'
 DAY = "# stored day 100 tuples 1137 notices 341 total 16416"
 
@@ -127,7 +127,7 @@ def commands(page):
         else:
             for at, line in block:
                 command, _, said = line.partition("  # ")
-                if re.match(r"(toll_|mkdir|export|cd |cp |python3|curl|rt |\()", command):
+                if re.match(r"(toll_|mkdir|export|cd |cp |python3|curl|rt |\.ci/|\()", command):
                     found.append((at, command.strip(), [said] if said.startswith(("#", "{", "total")) else None))
     return [(at, command, PRINTS.get(command) if said is None else "\n".join(said).rstrip("\n")) for at, command, said in found]
 
@@ -189,13 +189,18 @@ class Shell:
 
 
 def needs_kit(command):
-    return re.search(r"(^|[( ;&])rt |tools/build\.py", command) is not None
+    return re.search(r"(^|[( ;&])rt |tools/build\.py|^\.ci/run", command) is not None
 
 
 def passed_over(command, given):
-    """Whether a command needs what is not there: the kit, hours, or the server."""
+    """Whether a command needs what is not there: a tool, the kit, hours, or the server."""
+    if command.startswith("git -C") and not (TOP / ".git").exists():
+        return True
+    tools = re.findall(r"(?:^|[|;&(] ?)(rt|man|sqlite3|git|curl)(?= )", command)
+    if any(not shutil.which(it) for it in tools):
+        return True
     if command.startswith("rt version"):
-        return not shutil.which("rt")
+        return False
     if needs_kit(command):
         return not given.kit or command.startswith(GATE)
     return not (given.serve or given.kit) and re.search(r"toll_serve 0|out/toll_serve|curl", command) is not None

@@ -10,7 +10,8 @@ database that cannot be read, and of a server that has stopped. The script ends 
 stand-in told, in the page as Chromium has built it.
 With `--serve` the executable serves an office in a new folder, into which six days of bench/day.c were posted. A seventh is posted
 over half a minute, and meanwhile pictures of the page are made, light and dark: `page_import.png` and `page_import_dark.png`.
-With `--out docs/pictures` they are those of the documents. Needs `chromium` (`apt-get install chromium`).
+With `--out docs/pictures` they are those of the documents. Without `--out` no picture is kept. Needs `chromium`
+(`apt-get install chromium`).
 """
 import argparse
 import base64
@@ -241,12 +242,13 @@ def expect(what, text, wanted):
 def main():
     words = argparse.ArgumentParser()
     words.add_argument("--serve", type=lambda it: pathlib.Path(it).resolve())
-    words.add_argument("--out", default="pictures")
+    words.add_argument("--out")
     words.add_argument("--chromium", default=shutil.which("chromium") or shutil.which("chromium-browser"))
     asked = words.parse_args()
     if asked.chromium is None:
         sys.exit("no chromium: apt-get install chromium")
-    out = pathlib.Path(asked.out)
+    room = tempfile.TemporaryDirectory()
+    out = pathlib.Path(asked.out or room.name)
     out.mkdir(parents=True, exist_ok=True)
     if asked.serve:
         of_an_import(asked.serve, asked.chromium, out)
