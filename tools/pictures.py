@@ -360,6 +360,50 @@ def proof():
     return p
 
 
+def room():
+    """Where a connection to the server waits, and for what."""
+    seats = re.search(r"const SEATS: usize = (\d+)", (TOP / "crates/serve_room/src/hearing.rt").read_text())
+    p = Picture(960, 440, "Who waits for whom in the server")
+    p.text(20, 30, "Who waits for whom in toll_serve, with four readers", "text", 14, bold=True)
+    p.box(150, 60, 220, 330, "gold-box", "gold", 10)
+    p.text(170, 86, "the waiting room", "text", 14, bold=True)
+    for i, said in enumerate([f"{seats[1]} seats, no thread of its own", "each has 10 s for its head"]):
+        p.text(170, 106 + i * 18, said, "soft", 12)
+    for i in range(3):
+        for j in range(8):
+            p.box(170 + j * 23, 142 + i * 26, 16, 16, "page", "gold", 3)
+    p.text(170, 244, "A head is whole: all but POSTs", "text", 12)
+    p.text(170, 260, "of days leave at once.", "text", 12)
+    p.card(170, 282, 90, 34, ["the pass"], "green-box", "green")
+    p.text(170, 340, "There is one. A POST of a day", "text", 12)
+    p.text(170, 356, "takes it along; the others wait", "text", 12)
+    p.text(170, 372, "here, and keep no reader busy.", "text", 12)
+    p.text(20, 190, "connections", "text", 13, bold=True)
+    p.line(30, 206, 146, 206, "line", 2, arrow=True)
+    p.text(20, 232, "more than the seats:", "soft", 12)
+    p.text(20, 248, "they wait outside", "soft", 12)
+    for i, (said, what) in enumerate([("reader 1", "GET /live"), ("reader 2", "POST, with the pass"), ("reader 3", "POST: its answer"),
+                                      ("reader 4", "GET /days/100")]):
+        y = 66 + i * 82
+        p.card(440, y, 170, 56, [said, what], "green-box" if i == 1 else "blue-box", "green" if i == 1 else "blue")
+        p.line(372, y + 28, 436, y + 28, "line", 1.5, arrow=True)
+    p.text(440, 408, "At most three of the four have POSTs at once.", "soft", 12)
+    p.card(700, 60, 230, 60, ["the live board", "its readers never wait"], "blue-box", "blue")
+    p.card(700, 150, 230, 70, ["the imports' lock", "from the pass to its return:", "one day at a time"], "green-box", "green")
+    p.card(700, 250, 230, 70, ["the database's lock", "for one call at a time;", "longest while a day is stored"], "violet-box", "violet")
+    p.card(700, 350, 230, 46, ["tolls.db"], "gold-box", "gold")
+    p.line(612, 94, 696, 90, "line", 1.5, arrow=True)
+    p.line(612, 170, 696, 182, "line", 1.5, arrow=True)
+    p.line(612, 346, 696, 300, "line", 1.5, arrow=True)
+    p.line(815, 222, 815, 247, "line", 1.5, arrow=True)
+    p.line(815, 322, 815, 347, "line", 1.5, arrow=True)
+    p.line(745, 148, 745, 123, "green", 1.5, arrow=True)
+    p.text(753, 140, "publishes", "soft", 12)
+    p.path([(526, 206), (526, 217), (400, 217), (400, 299), (270, 299)], "green", 1.5, "5 4")
+    p.line(290, 299, 264, 299, "green", 1.5, arrow=True)
+    return p
+
+
 def days_line():
     """The days of an office on a line: a history, the days that are kept, the 69 days that a day looks back at, a new beginning."""
     p = Picture(940, 330, "The line of days")
@@ -429,7 +473,7 @@ def file_tables():
 
 
 PICTURES = {"vehicle_day": vehicle_day, "minutes": minutes, "accident": accident, "pipeline": pipeline,
-            "layers": crate_layers, "import": import_tree, "trust": trust, "speed": speed, "proof": proof, "days": days_line,
+            "layers": crate_layers, "import": import_tree, "trust": trust, "speed": speed, "proof": proof, "days": days_line, "room": room,
             "tables": file_tables}
 
 
