@@ -14,7 +14,7 @@ _toll_offer() {
     --* | =) return ;;
     esac
     for it in $1; do
-        [[ " ${COMP_WORDS[*]:0:COMP_CWORD} " == *" $it "* ]] || COMPREPLY+=($(compgen -W "$it" -- "$word"))
+        [[ " ${COMP_WORDS[*]:0:COMP_CWORD} " == *" $it "* || $it != "$word"* ]] || COMPREPLY+=("$it")
     done
 }
 

@@ -35,7 +35,7 @@ CHECKS = ["tools/write_docs.py --check", "tools/pictures.py --check", "tools/che
 TRIALS = [(f"trials/try_commands.py {OFFICE}", ["cc"]), (f"trials/try_docs.py {OFFICE} {SERVE}", ["curl"]),
           (f"trials/try_foreign.py {OFFICE}", []), (f"trials/try_renew.py {OFFICE}", []),
           (f"trials/try_new_folder.py {OFFICE}", ["sqlite3"]), (f"trials/try_serve.py {SERVE} --short", ["cc", "curl"]),
-          ("trials/try_page.py --looks", ["chromium"])]
+          ("trials/try_page.py", ["chromium"])]
 SUMMARY = re.compile(r"(\d+) passed, (\d+) failed\b")
 TICKS = os.sysconf("SC_CLK_TCK")
 

@@ -1,10 +1,8 @@
 -- How the command `renew BASE` ends, and what it writes.
-use Rattle.std.specs.Prelude.{◌≡◌, ◌≢◌, ◌⊎◌, ◌<◌, ◌≤◌, ℕ, Bool, List, ◌++◌, length, take, codes, Option, Some, Result}
+use Rattle.std.specs.Prelude.{◌≡◌, ◌≢◌, ◌⊎◌, ◌<◌, ℕ, List, ◌++◌, length, take, codes, Option, Some, Result}
 use Rattle.std.specs.Prelude.{Ok, Err}
 use Rattle.std.specs.Fmt.{decimal}
 use Rattle.std.specs.Io.KnownBytes.{Appends}
-use Rattle.road_io.specs.Faults.{Rose}
-use Rattle.road_io.specs.Plans.{NeverFails}
 use Rattle.keep_office.specs.declared.kept.KeepFault.{KeepFault}
 use Rattle.keep_office.specs.declared.kept.KeepFault.TheVariants as keeping
 use Rattle.keep_office.specs.Office.{Office}
@@ -49,17 +47,17 @@ Closes e status old new =
     ((status ≡ status_of e) × Appends old new (ending_line e))
     ⊎ ((status ≡ 5) × ((k : ℕ) × (k < length (ending_line e)) × Appends old new (take k (ending_line e))))
 
+-- a closing line is made in memory, but for those that say that the keeper failed and that an amount does not fit
+abbrev pub TakesMemory : Ending → Type 0
+TakesMemory e = (e ≢ KeeperFault) × (e ≢ Unfit)
+
+-- a run's closing line closes it, or where that takes memory, the line of want of memory
+abbrev pub ClosesRun : Ending → ℕ → Option (List ℕ) → Option (List ℕ) → Type 0
+ClosesRun e status old new = Closes e status old new ⊎ (TakesMemory e × Closes NoMemory status old new)
+
 -- the command ended as it should, with its closing line alone, and the office is as it should be; or it says of what it
 -- wants that it failed
 abbrev pub DoesCommand : RenewAnswer → Option Office → ℕ → Option (List ℕ) → Option (List ℕ) → Type 0
 DoesCommand a now status old new =
     status ≢ 5 → status ≢ 6 → status ≢ 8 → (status ≡ status_of (ending_of a.outcome))
     × Appends old new (ending_line (ending_of a.outcome)) × (now ≡ Some a.office)
-
--- the count of the keeper's faults never falls, rose where the status says that it failed, and stands where the command
--- ended well or was refused; a keeper that plans no failing call does not fail
-pub record FaultsTold (before now : ℕ) (plan : Option (ℕ → Bool)) (status : ℕ) : Type 0 where
-  pub later : before ≤ now
-  pub cause : status ≡ 6 → Rose before now
-  pub still : status ≢ 5 → status ≢ 6 → status ≢ 8 → now ≡ before
-  pub sure : NeverFails plan → status ≢ 6

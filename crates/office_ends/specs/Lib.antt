@@ -3,3 +3,5 @@ pub mod Says
 -- The command `renew BASE`: its words, and how it ends.
 pub mod Words
 pub mod Endings
+
+-- What a run promises, object by object.

@@ -1,7 +1,7 @@
 //! The office, and why it failed.
 //!
-//! `explained` does what `office` does, and promises the same. Where the status is that of a fault of reading or of the
-//! keeper, or of want of memory, it says why in one line to a sink of its own, which is standard error in the program.
+//! Where the status is that of a fault of reading or of the keeper, or of want of memory, `say_why` says why in one line
+//! to a sink of its own, which is standard error in the program.
 //!
 //! The command `renew BASE` of the program `toll_office`: the office begins anew at a day.
 //!
@@ -14,13 +14,11 @@
 mod answering;
 mod ending;
 mod entry;
-mod explaining;
 mod saying;
 mod words;
 
 pub use answering::answered;
 pub use ending::Ending;
 pub use entry::begin_anew;
-pub use explaining::explained;
 pub use saying::say_why;
 pub use words::renewal_base;

@@ -1,8 +1,8 @@
 use Rattle.std.proofs.Common.{◌≡◌, ◌∙◌, ap, sym, arith}
 use Rattle.keep_office.specs.declared.kept.KeepFault.TheVariants.{Failed}
 use Rattle.keep_office.specs.Renewals.{renew_answer}
-use Rattle.office_ends.specs.Endings.{status_of}
-use Rattle.office_ends.proofs.EndingLaws.{does, some_line, is_fault, fault_six}
+use Rattle.office_ends.specs.Endings.{ending_by, status_of}
+use Rattle.office_ends.proofs.EndingLaws.{does, some_line, is_fault}
 use Rattle.office_ends.proofs.entry.begin_anew.Goals as goal
 
 pub returns-clause-does : goal.returns-clause-does
@@ -21,8 +21,8 @@ returns-clause-keeper g c =
       later = f.later;
       cause = λ is. f.cause (is_fault c.renew-done.result c.ended.result c.ended.ensures
           (sym (c.close.ensures.status (λ e. omega (arith, is, e)) (λ e. omega (arith, is, e))) ∙ is));
-      still = λ five six eight. f.still (λ bad. six (c.close.ensures.status five eight
-          ∙ ap status_of c.ended.ensures ∙ fault_six c.renew-done.result bad));
+      still = λ well quiet. f.still (λ bad. (let told = c.ended.ensures ∙ ap ending_by bad in
+          well (c.close.ensures.status quiet (λ eight. (c.close.ensures.memory eight).0 told) ∙ ap status_of told)));
       sure = λ never is. f.sure never (is_fault c.renew-done.result c.ended.result c.ended.ensures
           (sym (c.close.ensures.status (λ e. omega (arith, is, e)) (λ e. omega (arith, is, e))) ∙ is));
     }
