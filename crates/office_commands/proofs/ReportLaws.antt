@@ -30,6 +30,8 @@ module _ (number : ℕ) (o : Office) (old new : Option (List ℕ)) where
       ([], fault_empty (report_command number None o), h)
   reported (Some t) (Err reports.KeeperFault) (Ok c) e h =
       subst (λ x. Wrote (text_alone t o) (Ok x) old new) (sym e) ([], fault_empty (text_alone t o), h)
+  reported None (Err (reports.Unsound day)) r e h = absurd h
+  reported (Some t) (Err (reports.Unsound day)) r e h = absurd h
   reported None (Err reports.WriteFault) r e h = absurd h
   reported (Some t) (Err reports.WriteFault) (Ok c) e h = absurd e
   reported (Some t) (Err reports.WriteFault) (Err x) e h = h
@@ -49,6 +51,7 @@ module _ (number : ℕ) (o : Office) (old new : Option (List ℕ)) where
   stated t (Err reports.NoDay) r e own h = absurd (own refl)
   stated t (Err reports.KeeperFault) (Ok c) e own h =
       subst (λ x. Wrote (text_alone t o) (Ok x) old new) (sym e) ([], fault_empty (text_alone t o), h)
+  stated t (Err (reports.Unsound day)) r e own h = absurd h
   stated t (Err reports.WriteFault) (Ok c) e own h = absurd e
   stated t (Err reports.WriteFault) (Err x) e own h = h
   stated t (Err reports.NoMemory) (Ok c) e own h =

@@ -27,6 +27,7 @@ fn reported(day: u32, done: Result<(), ReportFault>) -> Result<Option<Closing>, 
         Ok(()) => Ok(None),
         Err(ReportFault::NoDay) => Ok(Some(Closing::NoDay { day })),
         Err(ReportFault::KeeperFault) => Ok(Some(Closing::KeeperFault)),
+        Err(ReportFault::Unsound { day }) => Ok(Some(Closing::Unsound { day })),
         Err(ReportFault::WriteFault) => Err(Failed),
         Err(ReportFault::NoMemory) => Ok(Some(Closing::NoMemory)),
     }
