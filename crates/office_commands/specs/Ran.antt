@@ -16,6 +16,7 @@ use Rattle.office_commands.specs.Endings.{KeepsTo, Writes, Concludes, HoldsSame}
 use Rattle.office_commands.specs.Faults.{ReadFaults}
 use Rattle.office_commands.specs.Rests.{LeavesAsKept, ReadsAsked}
 use Rattle.office_commands.specs.Starts.{StartsAsked}
+use Rattle.office_commands.specs.Sums.{TellsSound}
 use Rattle.office_commands.specs.Uses.{IsTold, IsRightCrew, IsRightAside, SourceTells, KeeperTells}
 use Rattle.office_commands.specs.Uses.{uses_crew, uses_source, uses_aside, uses_keeper, changes_kept, AsksPassed}
 use Rattle.office_commands.specs.Uses.{PutsAsked, most_of, most_aside_of}
@@ -63,7 +64,7 @@ pub record WorksAsked {S C T N : Type 0} (s : SourceGhosts S) (g : CrewGhosts C 
   pub idle : g.out new ≡ []
   pub same : g.which new ≡ g.which old
 
--- a sink: what was written, where all that was read tells what it holds
+-- a sink: what was written, where all that was read tells what it holds; and that a day which is told adds up
 pub record WritesAsked {S A O K : Type 0} (s : SourceGhosts S) (a : SourceGhosts A) (g : SinkGhosts O)
     (k : KeeperGhosts K) (limits : Limits) (meant : Option Command) (exact : Bool) (status : ℕ) (source : S)
     (aside : A) (keeper kept : K) (old new : O) : Type 0 where
@@ -74,6 +75,7 @@ pub record WritesAsked {S A O K : Type 0} (s : SourceGhosts S) (a : SourceGhosts
       IsTold meant exact (s.left source) (a.left aside) (k.told keeper) bytes lines o → k.told keeper ≡ Some o →
       Concludes k.refuses (office_answer limits bytes lines o meant) o status (g.written old) (g.written new)
       (k.told kept)
+  pub sums : TellsSound meant status (g.written old) (g.written new)
   pub faults : FaultsByRoom (g.faults old) (g.faults new) (g.room old) (g.room new) (status ≡ 5)
 
 -- what a run was given, or what it left of that

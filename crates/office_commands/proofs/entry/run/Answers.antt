@@ -14,6 +14,7 @@ use Rattle.office_commands.proofs.PutLaws.{puts_same}
 use Rattle.office_commands.proofs.StatusLaws.{read_other, rest_other}
 use Rattle.office_commands.proofs.entry.run.Goals as goal
 use Rattle.office_commands.specs.Starts.{StartsAsked, SeesAsked}
+use Rattle.office_commands.specs.Sums.{WroteSound}
 use Rattle.office_commands.proofs.StartLaws.{starts_other, sees_other}
 
 pub returns-in-Ok-clause-wrote : goal.returns-in-Ok-clause-wrote
@@ -238,3 +239,9 @@ pub returns-in-Err-NoMemory-clause-by : goal.returns-in-Err-NoMemory-clause-by
 returns-in-Err-NoMemory-clause-by g c =
     sees_other 8 (λ s. omega (arith, s)) (λ s. omega (arith, s)) (λ s. omega (arith, s)) (asked c.args.words.now)
     c.args.shards_seen.now
+
+pub returns-in-Ok-clause-sums : goal.returns-in-Ok-clause-sums
+returns-in-Ok-clause-sums g c =
+    let is = meant _ c.in-Ok.command c.read_words.result c.read_words.ensures.reads c.in-Ok.is in
+    subst (λ (m : Option Command). WroteSound m c.perform.result (g.O.Sink.written c.args.sink.now)
+    (g.O.Sink.written c.perform.new.sink)) (sym is) c.perform.ensures.sums

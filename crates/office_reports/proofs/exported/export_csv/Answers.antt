@@ -4,7 +4,6 @@ use Rattle.keep_office.specs.declared.kept.DayRecord.{DayRecord}
 use Rattle.keep_office.specs.Office.{rows_between}
 use Rattle.office_reports.specs.Endings.{Reported}
 use Rattle.office_reports.specs.Exports.{export_text, export_report}
-use Rattle.office_reports.proofs.AddLaws.{adds}
 use Rattle.office_reports.proofs.EndingLaws.{reported}
 use Rattle.office_reports.proofs.exported.export_csv.Goals as goal
 
@@ -23,11 +22,3 @@ returns-in-Ok-export_text-clause-wrote g c = λ o told.
     (subst (λ t. Reported c.put_text.result old new (Some t)) text
     (reported c.put_text.result old new c.as_slice-in-Ok-export_text.result.now c.put_text.ensures.wrote
     c.put_text.ensures.own.0))
-
-pub returns-in-Ok-export_text-clause-adds : goal.returns-in-Ok-export_text-clause-adds
-returns-in-Ok-export_text-clause-adds g c =
-    adds c.put_text.result (g.O.Sink.written c.args.sink.now) (g.O.Sink.written c.put_text.new.sink)
-    (λ r rows. export_text rows) c.as_slice-in-Ok-export_text.result.now c.in-Ok.found.record c.in-Ok.found.rows.items
-    c.put_text.ensures.wrote
-    (c.as_slice-in-Ok-export_text.ensures.value ∙ c.in-Ok-export_text.ensures ∙ ap export_text c.as_slice.ensures.value)
-    c.in-Ok.ensures.adds
