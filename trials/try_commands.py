@@ -204,6 +204,8 @@ def hundred(office):
 
 
 def main():
+    if len(sys.argv) != 2:
+        sys.exit(__doc__)
     program = sys.argv[1]
     with tempfile.TemporaryDirectory() as folder:
         top = pathlib.Path(folder)
