@@ -26,7 +26,7 @@ from build import at_a_time
 from write_docs import TOP
 
 A_JOB = 5.5
-LIMIT = 300
+LIMIT = 600
 OFFICE, SERVE = "crates/toll_office/out/toll_office", "crates/toll_serve/out/toll_serve"
 CHECKS = ["tools/write_docs.py --check", "tools/pictures.py --check", "tools/check_docs.py", "tools/check_words.py",
           "tools/check_rows.py", "tools/check_traffic.py", "tools/check_clauses.py", "tools/check_heads.py",
@@ -113,6 +113,9 @@ def kind_of(words, folder):
 def rt_ci():
     """Runs `rt ci`, shows what it says, and returns how much passed and failed. Its own last line is shown in other words."""
     env = {**os.environ, "RT_JOBS": os.environ.get("RT_JOBS") or str(at_a_time(A_JOB))}
+    if not shutil.which("rt"):
+        say("FAILED: there is no command rt; one of the kits in KIT gives it")
+        return 0, 1
     say(f"rt ci, {env['RT_JOBS']} crates at a time")
     counts = (0, 0)
     with subprocess.Popen(["rt", "ci"], cwd=TOP, env=env, text=True, errors="replace", bufsize=1, stdin=subprocess.DEVNULL,

@@ -278,6 +278,7 @@ def main():
             picture(asked.chromium, url, out / "page_narrow.png", NARROW, False, 30)
         server.shutdown()
         server.server_close()
+    print(f"the page shows what it is told, in {len(states)} states")
 
 
 main()

@@ -2,18 +2,22 @@
 """Tries the server as a new user would, and prints what was seen.
 
     python3 trials/try_serve.py PROGRAM [--lines 100000] [--beside 1000000] [--asks 1000] [--folder DAYS]
+    python3 trials/try_serve.py PROGRAM --short
 
-PROGRAM is the executable `toll_serve`. The server runs in a new folder, on a free port of this machine. Asked are: every
-path and every refusal, with the whole answer; the notices of a day that `curl` sends slowly; a day of several expressways, whose amounts are those of `plain.c`; refused requests with bodies that nobody reads; requests as a page of the web
-sends them; a day of so many lines, posted while four clients read the live board; so many kept days one after another; a
-slow client and a silent one beside three that work; six hundred silent ones, and fifty whose heads come a byte a second; more
-connections than there are file handles; 200 faults of accept, and threads that cannot be had; POSTs in line behind one, of
-which some clients leave; a day of so many lines again, posted beside 650 silent clients and ten POSTs in line, while
-others ask for live totals and kept amounts; a POST of a passed day and one of a refused day, whose bodies of some MB come slowly, and
-a client that does not take its answer, beside the next POST; clients that are answered and go on sending; a POST whose body comes a byte a second,
-and one whose body is held back, beside clients that ask for what is kept; clients that vanish; a kill -9 at moments of a POST. The
-server then ends by its sessions, and Python's `sqlite3` reads what it kept. The script ends with status 1 at the first answer
-that is not the expected one, or that comes late. The faults of accept are made by `trials/fail_accept.c`, built by `cc`.
+PROGRAM is the executable `toll_serve`. The server runs in a new folder, on a free port of this machine. Asked are: every path
+and every refusal, with the whole answer; the notices of a day that `curl` sends slowly; a day of several expressways, whose
+amounts are those of `plain.c`; refused requests with bodies that nobody reads; requests as a page of the web sends them; a day
+of so many lines, posted while four clients read the live board; so many kept days one after another; a slow client and a
+silent one beside three that work; six hundred silent ones, and fifty whose heads come a byte a second; more connections than
+there are file handles; 200 faults of accept, and threads that cannot be had; POSTs in line behind one, of which some clients
+leave; a day of so many lines again, posted beside 650 silent clients and ten POSTs in line, while others ask for live
+totals and kept amounts; a POST of a passed day and one of a refused day, whose bodies of some MB come slowly, and a client
+that does not take its answer, beside the next POST; clients that are answered and go on sending; a POST whose body comes a
+byte a second, and one whose body is held back, beside clients that ask for what is kept; clients that vanish; a kill -9 at
+moments of a POST. The server then ends by its sessions, and Python's `sqlite3` reads what it kept. The script ends with status
+1 at the first answer that is not the expected one, or that comes late. The faults of accept are made by
+`trials/fail_accept.c`, built by `cc`. With --short what takes long is left out: several expressways, crowds of silent clients,
+faults of accept, POSTs in line, slow clients.
 """
 import argparse
 import http.client
@@ -890,6 +894,14 @@ def try_kept(folder, day):
     print(f"sqlite3 reads a copy of tolls.db without its log: three days, {rows} amounts, the day's sum is its total")
 
 
+def in_a_folder(attempt, program, *given):
+    """Makes an attempt in a new folder, and says how long it took."""
+    began, own = time.monotonic(), tempfile.mkdtemp()
+    attempt(program, own, *given)
+    shutil.rmtree(own)
+    print(f"{attempt.__name__}: {time.monotonic() - began:.1f} s", flush=True)
+
+
 def main():
     words = argparse.ArgumentParser(description=__doc__, formatter_class=argparse.RawDescriptionHelpFormatter)
     words.add_argument("program", type=pathlib.Path)
@@ -898,27 +910,26 @@ def main():
     words.add_argument("--asks", type=int, default=1000)
     words.add_argument("--kills", type=int, default=KILLS)
     words.add_argument("--folder", type=pathlib.Path, default=pathlib.Path(tempfile.gettempdir()) / "days")
+    words.add_argument("--short", action="store_true")
     given = words.parse_args()
+    if given.short:
+        given.lines, given.asks, given.kills = 10_000, 100, 5
     given.folder.mkdir(parents=True, exist_ok=True)
     program = str(given.program.resolve())
-    path = make_day(given.folder, str(given.lines))
     folder = tempfile.mkdtemp()
     try_words(program)
     try_answers(program, folder)
-    own = tempfile.mkdtemp()
-    try_bodies(program, own)
-    shutil.rmtree(own)
-    for attempt in (try_stream, try_ways, try_silent, try_handles, try_faults, try_threads, try_drains, try_line, try_passed):
-        own = tempfile.mkdtemp()
-        attempt(program, own)
-        shutil.rmtree(own)
-    own = tempfile.mkdtemp()
-    try_beside(program, own, make_day(given.folder, str(given.beside)))
-    shutil.rmtree(own)
+    attempts = [try_bodies, try_stream, try_handles, try_threads, try_drains, try_passed]
+    for attempt in attempts if given.short else attempts + [try_ways, try_silent, try_faults, try_line]:
+        in_a_folder(attempt, program)
+    if not given.short:
+        in_a_folder(try_beside, program, make_day(given.folder, str(given.beside)))
+    path = make_day(given.folder, str(given.lines))
     try_kills(program, path, given.kills)
     server, day = try_day(program, folder, path)
     try_asks(server, given.asks)
-    try_slow(server)
+    if not given.short:
+        try_slow(server)
     expect("the end", server.end(), (0, b""))
     try_kept(folder, day)
     shutil.rmtree(folder)
