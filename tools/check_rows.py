@@ -25,6 +25,11 @@ from rows_of_commands import TABLES
 def named(places):
     """What the page names and is not there."""
     wrong, part = [], ""
+    there = {it for text in places.every.values() for it in re.findall(r"\w+", text)} | set(places.printed)
+    for at, _, cells, _ in rows():
+        for word in re.findall(r"`(\w+)`", cells.get("Has it", "")):
+            if word not in there and not (TOP / "crates" / word).is_dir():
+                wrong.append(f"docs/ROWS.md:{at}: no {word}")
     for at, line in enumerate(PAGE.read_text().splitlines(), 1):
         part = line[3:] if line.startswith("## ") else part
         has = line.rsplit(" | ", 1)[-1] if line.startswith("|") else line

@@ -199,7 +199,7 @@ def hundred(office):
     notices, _ = office.run("answers", BASE, text=day)
     compare(office, BASE, day, notices)
     kept = sum(1 for row in every if int(row[1]) >= BASE - 69 and int(row[3]) > 0)
-    expect("renew", office.run("renew", BASE), ([], f"# renewed base {BASE} rows {kept}"))
+    expect("renew", office.run("renew", BASE), ([], f"# renewed base {BASE} rows {kept} dropped 0"))
     expect("days of a new office", office.run("days"), ([], f"# days 0 last {LAST}"))
     expect("answers as before", office.run("answers", BASE, text=day)[0], notices)
 
