@@ -15,3 +15,5 @@ pub mod Faults
 pub mod Endings
 pub mod Rests
 pub mod Starts
+-- What a run promises, object by object
+pub mod Ran

@@ -1,7 +1,7 @@
 -- The digest of bytes, which is their SHA-256.
 use Rattle.std.specs.Prelude.{ℕ, ◌+◌, List, take}
 use Rattle.sha2.specs.Sha256.{sha256}
-use Rattle.sha2.specs.Hashers.{Holds256}
+use Rattle.road_sha.specs.Hashers.{Holds}
 use Rattle.road_digest.specs.declared.digest.Digest.{Digest}
 use Rattle.road_digest.specs.declared.digest.Digester.{Digester}
 
@@ -15,4 +15,4 @@ found_digest bytes n = digest_of (take (n + 1) bytes)
 
 -- a digester took these bytes, one piece after another
 abbrev pub Took : Digester → List ℕ → Type 0
-Took d bytes = Holds256 d.hasher bytes
+Took d bytes = Holds d.hasher bytes

@@ -4,8 +4,8 @@ ghost use Rattle.std.specs.String.{string_bytes};
 ghost use Rattle.hex.specs.Hex.{encode_lower};
 ghost use Rattle.road_digest.specs.Digests.{Took, digest_of};
 
+use road_sha::Sha256;
 use road_time::NoMemory;
-use sha2::{Digest as _, Sha256};
 use std::alloc::Global;
 
 /// The SHA-256 digest of some bytes.

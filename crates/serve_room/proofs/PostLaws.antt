@@ -1,12 +1,13 @@
 -- Laws of who leaves the room first.
-use Rattle.std.proofs.Common.{◌≡◌, ◌⊎◌, inl, inr, ⊎_elim, ℕ, zero, suc, ◌≤◌, ◌<◌, ◌+◌, Bool, true, false, List, [], ◌∷◌}
+use Rattle.std.proofs.Common.{◌≡◌, ◌⊎◌, inl, inr, ⊎_elim, ℕ, zero, suc, ◌≤◌, ◌<◌, ◌+◌, ◌-◌, Bool, true, false, List, [], ◌∷◌}
 use Rattle.std.proofs.Common.{length, drop, slice_get, Option, Some, None, refl, sym, ap, subst, ◌∙◌, arith}
-use Rattle.std.proofs.lemmas.Bool.{cond-true, cond-false, false≢true}
+use Rattle.std.proofs.lemmas.Bool.{cond-true, false≢true, cases_lt}
 use Rattle.std.specs.Time.{instant_nanos}
 use Rattle.std.specs.declared.time.Instant.{Instant}
 use Rattle.road_time.proofs.EachLaws.{some_is, no_some}
 use Rattle.serve_room.specs.declared.seat.Seat.{Seat}
-use Rattle.serve_room.specs.Posts.{ends_line, posts, may_leave, NoneBefore, NoneBelow, Leaves, IsFirstBelow, IsFirst}
+use Rattle.serve_room.specs.Times.{head_time}
+use Rattle.serve_room.specs.Posts.{ends_line, posts, may_leave, IsLetGo, NoneBefore, NoneBelow, Leaves, IsFirstBelow, IsFirst}
 
 -- below the next number is a number or below it
 below_or_at : (k at : ℕ) → k < suc at → (k < at) ⊎ (k ≡ at)
@@ -127,3 +128,30 @@ posts_on [] at byte is ends = absurd (no_some byte is)
 posts_on (b ∷ held) zero byte is ends =
     cond-true _ _ _ (ap ends_line (some_is b byte is) ∙ ends)
 posts_on (b ∷ held) (suc at) byte is ends = posts_on held at byte is ends
+
+-- whoever is let go may leave, whether or not others may not
+pub let_go_leaves : (seat : Seat) → IsLetGo seat → (forbidden : Bool) → may_leave forbidden seat ≡ true
+let_go_leaves seat gone false = rw gone.called refl
+let_go_leaves seat gone true = rw gone.called (rw gone.none refl)
+
+-- whoever is let go stays so, where none but who posts a day is changed
+pub let_go_on : (old new : Seat) → IsLetGo old → (posts old.held.items ≡ false → new ≡ old) → IsLetGo new
+let_go_on old new gone same = subst IsLetGo (sym (same (ap posts gone.none))) gone
+
+-- whoever posts a day and has gone is let go, also where its time is over
+pub still_gone : (now : Instant) (old mid new : Seat) →
+    (old.called ≡ false → head_time ≤ instant_nanos now - instant_nanos old.since → IsLetGo mid) →
+    (instant_nanos now - instant_nanos old.since < head_time → mid ≡ old) → (old.called ≡ true → mid ≡ old) →
+    (posts mid.held.items ≡ true → IsLetGo new) → (posts mid.held.items ≡ false → new ≡ mid) →
+    posts old.held.items ≡ true → IsLetGo new
+still_gone now old mid new late young called gone same day =
+    ⊎_elim (λ (low : instant_nanos now - instant_nanos old.since < head_time). as_was (young low))
+    (λ (high : head_time ≤ instant_nanos now - instant_nanos old.since). by_called high old.called refl)
+    (cases_lt (instant_nanos now - instant_nanos old.since) head_time)
+  where
+    as_was : mid ≡ old → IsLetGo new
+    as_was e = gone (ap (λ s. posts s.held.items) e ∙ day)
+
+    by_called : head_time ≤ instant_nanos now - instant_nanos old.since → (b : Bool) → old.called ≡ b → IsLetGo new
+    by_called high true is = as_was (called is)
+    by_called high false is = let_go_on mid new (late is high) same

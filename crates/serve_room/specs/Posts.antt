@@ -32,6 +32,12 @@ posts (byte ∷ bytes) = if ends_line byte then posts bytes else begins_post (by
 abbrev pub may_leave : Bool → Seat → Bool
 may_leave forbidden seat = seat.called && (not forbidden || not (posts seat.held.items))
 
+-- a connection is to wait no more, nothing more is read of it, and nothing of it is held
+pub record IsLetGo (seat : Seat) : Type 0 where
+  pub called : seat.called ≡ true
+  pub late : seat.late ≡ true
+  pub none : seat.held.items ≡ []
+
 -- below a place nobody may leave who was accepted before a moment
 abbrev pub NoneBefore : Bool → List (Option Seat) → ℕ → Instant → Type 0
 NoneBefore forbidden seats below since =
@@ -62,3 +68,9 @@ IsFirst forbidden seats at seat = Leaves forbidden seats (length seats) at seat
 -- nobody may leave
 abbrev pub HasNone : Bool → List (Option Seat) → Type 0
 HasNone forbidden seats = NoneBelow forbidden seats (length seats)
+
+-- of those that are to wait no more, only who posts a day still sits
+abbrev pub OnlyPostsWait : List (Option Seat) → Type 0
+OnlyPostsWait seats =
+    (k : ℕ) (seat : Seat) → k < length seats → slice_get seats k ≡ Some (Some seat) → seat.called ≡ true →
+    posts seat.held.items ≡ true

@@ -6,11 +6,12 @@ use crate::seat::Seat;
 use mio::Events;
 use std::time::Instant;
 
-/// How many connections wait at once.
-pub(crate) const SEATS: usize = 1024;
+/// How many connections wait at once. With those that are drained they leave 176 of the 1,024 file handles that a process
+/// usually has: two for each of 64 acceptors, and some for the database, its log, the listener and the poll.
+pub(crate) const SEATS: usize = 720;
 
 /// How many connections that were answered are drained at once.
-pub(crate) const DRAINS: usize = 1024;
+pub(crate) const DRAINS: usize = 128;
 
 /// The first token of a connection that is drained, behind those of the seats, of the listener and of the waker.
 pub(crate) const FIRST_DRAIN: usize = SEATS + 2;

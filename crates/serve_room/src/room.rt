@@ -1,9 +1,10 @@
 // Where connections wait for their head.
-ghost use Rattle.std.specs.Prelude.{◌≡◌, ◌<◌, ◌+◌, true, false, None, Some, IfOk, IfSome, IsSome, slice_get};
+ghost use Rattle.std.specs.Prelude.{◌≡◌, ◌≢◌, ◌<◌, ◌+◌, true, false, None, Some, IfOk, IfSome, IsSome, slice_get};
 ghost use Rattle.serve_room.specs.Addresses.{address_of};
 ghost use Rattle.serve_room.specs.Outsides.{most_out, out_of};
 ghost use Rattle.serve_room.specs.OwnPorts.{IsOwnPort};
-ghost use Rattle.serve_room.specs.Posts.{posts};
+ghost use Rattle.serve_room.specs.declared.seat.Seat.{Seat as TheSeat};
+ghost use Rattle.serve_room.specs.Posts.{posts, OnlyPostsWait};
 
 use crate::draining::Drain;
 use crate::heard::Heard;
@@ -101,7 +102,8 @@ fn patience(seats: &[Option<Seat>], drains: &[Option<Drain>], gate: Gate) -> Opt
 
 /// Takes the connection out of a seat, if one sits there.
 fn take_at(seats: &mut [Option<Seat>], at: usize) -> Option<Seat>
-    ensures { IfSome result (λ seat. slice_get seats.old at ≡ Some (Some seat)) }
+    ensures sat { IfSome result (λ seat. slice_get seats.old at ≡ Some (Some seat)) }
+    ensures none { (seat : TheSeat) → result ≡ None → slice_get seats.old at ≢ Some (Some seat) }
 {
     seats.get_mut(at)?.take()
 }
@@ -230,6 +232,7 @@ impl WaitingRoom {
         ensures counts { IfSome result (λ line. posts line.front.items ≡ true
             → out_of self.new ≡ out_of self.old + 1) }
         ensures told { IfSome result (λ line. line.keep.posts ≡ posts line.front.items) }
+        ensures left { result ≡ None → OnlyPostsWait self.old.seats.items }
     {
         let at = first_called(self.seats.as_slice(), self.outside.forbids())?;
         let seat = take_at(self.seats.as_mut_slice(), at)?;

@@ -1,7 +1,7 @@
 // A connection that waits for its head.
-ghost use Rattle.std.specs.Prelude.{◌≡◌, ◌≤◌, ◌<◌, ◌+◌, ◌-◌, ◌≢◌, true, false, [], None, Some, length, vec_len};
+ghost use Rattle.std.specs.Prelude.{◌≡◌, ◌≤◌, ◌<◌, ◌+◌, ◌-◌, ◌≢◌, true, false, None, Some, length, vec_len};
 ghost use Rattle.std.specs.Time.{instant_nanos};
-ghost use Rattle.serve_room.specs.Posts.{posts};
+ghost use Rattle.serve_room.specs.Posts.{posts, IsLetGo};
 ghost use Rattle.serve_room.specs.Times.{head_time, has_gone};
 
 use crate::front::{FRONT, is_told};
@@ -88,23 +88,24 @@ impl Seat {
         }
     }
 
-    /// Calls the connection, of which nothing more is to be read.
+    /// Calls the connection, of which nothing more is to be read, and lets go of what it sent: nothing of it is served.
     pub(crate) fn call_late(&mut self)
-        ensures called { self.new.called ≡ true }
-        ensures late { self.new.late ≡ true }
-        ensures held { self.new.held ≡ self.old.held }
+        ensures gone { IsLetGo self.new }
         ensures ended { self.new.ended ≡ self.old.ended }
     {
+        self.held.clear();
         self.called = true;
         self.late = true;
     }
 
-    /// Calls the connection where its time is over.
+    /// Calls the connection where its time is over, and lets go of what it sent. So it may leave its seat at once, whatever
+    /// it began to send.
     pub(crate) fn judge(&mut self, now: Instant)
         ensures over { head_time ≤ instant_nanos now - instant_nanos self.old.since → self.new.called ≡ true }
+        ensures late { self.old.called ≡ false → head_time ≤ instant_nanos now - instant_nanos self.old.since
+            → IsLetGo self.new }
         ensures young { instant_nanos now - instant_nanos self.old.since < head_time → self.new ≡ self.old }
         ensures called { self.old.called ≡ true → self.new ≡ self.old }
-        ensures held { self.new.held ≡ self.old.held }
         ensures ended { self.new.ended ≡ self.old.ended }
     {
         if self.called {
@@ -128,8 +129,7 @@ impl Seat {
     /// Lets go of what a connection that waits in line sent, where its client has gone: its end was heard a second ago.
     /// Nothing of it is served then.
     pub(crate) fn judge_line(&mut self, now: Instant)
-        ensures gone { posts self.old.held.items ≡ true → has_gone self.old.ended now ≡ true
-            → (self.new.held.items ≡ []) × (self.new.late ≡ true) × (self.new.called ≡ true) }
+        ensures gone { posts self.old.held.items ≡ true → has_gone self.old.ended now ≡ true → IsLetGo self.new }
         ensures waits { has_gone self.old.ended now ≡ false → self.new ≡ self.old }
         ensures answered { posts self.old.held.items ≡ false → self.new ≡ self.old }
         ensures called { self.old.called ≡ true → self.new.called ≡ true }
@@ -138,7 +138,6 @@ impl Seat {
             return;
         }
         if has_gone(self.ended, now) {
-            self.held.clear();
             self.call_late();
         }
     }

@@ -1,8 +1,8 @@
 //! The tolling office over HTTP, for this machine alone.
 //!
 //! `main` hands the words, a door on a port of 127.0.0.1 and what is kept in the file `KEPT_FILE` to
-//! `serve_in_threads`, whose jobs run in threads of their own, closes what is kept, and ends with its status. It
-//! prints nothing but where what is kept cannot be closed: that it says on standard error.
+//! `serve_in_threads`, closes what is kept, and ends with its status. It prints nothing but where what is kept
+//! cannot be closed: that it says on standard error.
 #![tactic(auto)]
 
 use keep_files::{KEPT_FILE, SqliteKeeper, close_said};
