@@ -186,7 +186,7 @@ pub fn open_whole<D: AtPath>(
     ensures refused { IfErr result
         (RefusesPath D.Disk D.AtPath.reaches D.AtPath.refuses D.AtPath.undrawn path.now) }
 {
-    match D::open(rt, path) {
+    match D::open(rt, path, 0) {
         Ok(files) => opened_whole(rt, files),
         Err(cause) => Err(cause),
     }
@@ -281,10 +281,12 @@ pub fn listed_again<D: AtPath>(rt: &HostRuntime, files: Files<D>) -> Option<Page
     }
 }
 
-/// The trees of the file at a path where it is exactly ours, or else the file whole.
+/// The trees of the file at a path where it is exactly ours, or else the file whole. Where another has it open, it waits
+/// that number of seconds at most.
 pub fn open_to_read<D: AtPath>(
     rt: &HostRuntime,
     path: &str,
+    wait: u32,
 ) -> Result<Kept<PageTrees<Pool<D>>, Connection<FileStore<D>>>, Cause>
     ensures found { IfOk result (FindsTrees ⟦<Pool<D> as Pages>⟧) }
     ensures opened { IfOk result (λ kept. FileGives D.Disk D.AtPath.reaches (FromPath path.now) (read_part kept)) }
@@ -295,7 +297,7 @@ pub fn open_to_read<D: AtPath>(
         Ok(seed) => seed,
         Err(cause) => return Err(cause),
     };
-    let files = match D::open(rt, path) {
+    let files = match D::open(rt, path, wait) {
         Ok(files) => files,
         Err(cause) => return Err(cause),
     };
