@@ -27,6 +27,7 @@ _toll_office() {
         answers | import) words="--late --workers --turns --backlog" ;;
         check | validate | accidents) words="--late" ;;
         audit) words="--late --shards --workers --show --any-order" ;;
+        renew) words="--drop" ;;
         generate) words="--vehicles --minutes --xways --crashes" ;;
         rehearse) words="--vehicles --minutes --xways --crashes --late --workers --turns --backlog" ;;
         esac

@@ -39,8 +39,9 @@ def office():
     row = r'(?:stated|flagged)_form \(codes "(\w+)"\) (\[\]|\(.*?\[\]\)) (\(.*?\)|[\w\[\]]+) ?(\w*)$'
     rows = re.findall(row, body, re.M)
     forms = {name: (names(places), names(options) + names(flags)) for name, places, options, flags in rows}
-    beside = re.search(r'bytes_eq name \(codes "(\w+)"\)', text("crates/office_ends/specs/Words.antt"))
-    return {**forms, beside.group(1): (["base"], [])}
+    words = text("crates/office_ends/specs/Words.antt")
+    beside = re.search(r'bytes_eq name \(codes "(\w+)"\)', words)
+    return {**forms, beside.group(1): (["base"], sorted(set(re.findall(r'codes "--(\w+)"', words))))}
 
 
 def server():

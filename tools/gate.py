@@ -26,7 +26,7 @@ from build import at_a_time
 from write_docs import TOP
 
 A_JOB = 5.5
-LIMIT = 300
+LIMIT = 600
 OFFICE, SERVE = "crates/toll_office/out/toll_office", "crates/toll_serve/out/toll_serve"
 CHECKS = ["tools/write_docs.py --check", "tools/pictures.py --check", "tools/check_docs.py", "tools/check_words.py",
           "tools/check_rows.py", "tools/check_traffic.py", "tools/check_clauses.py", "tools/check_heads.py",

@@ -61,7 +61,7 @@ INLINE = {
     "man -l docs/toll_office.1": [('man -l "$OLD/docs/toll_office.1" | grep -m 1 -c "toll_office import DAY"', "1")],
     "source docs/toll_office.bash": [
         ('source "$OLD/docs/toll_office.bash" && COMP_WORDS=(toll_office va) COMP_CWORD=1', ""),
-        ('_toll_office && echo "${COMPREPLY[@]}"', "validate")],
+        ('_toll_office; echo "${COMPREPLY[@]}"', "validate")],
     "set -o pipefail": [("(set -o pipefail; toll_office export 99 | tail -n 1; echo $?)", "# no day 99\n3")],
     "pv day.csv | toll_office import 100": [
         # (by then the page has begun anew, so this has a folder of its own)

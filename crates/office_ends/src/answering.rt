@@ -5,18 +5,19 @@ ghost use Rattle.std.specs.Fn.{FnReturnsAt};
 ghost use Rattle.road_io.specs.Blame.{FaultsByRoom};
 ghost use Rattle.road_time.specs.Fits.{IsLimits};
 ghost use Rattle.keep_office.specs.Office.{Office};
-ghost use Rattle.keep_office.specs.Renewals.{renew_answer, IsRenewedOr};
+ghost use Rattle.keep_office.specs.Renewals.{IsRenewedOr};
 ghost use Rattle.day_import.specs.Faults.{FaultsBeside};
 ghost use Rattle.office_commands.specs.Uses.{asked};
 ghost use Rattle.office_ends.specs.declared.ending.Ending.{Ending as EndingValue};
-ghost use Rattle.office_ends.specs.Endings.{Closes, DoesCommand};
+ghost use Rattle.office_ends.specs.Drops.{command_answer, DoesCommand};
+ghost use Rattle.office_ends.specs.Endings.{Closes};
 ghost use Rattle.office_commands.specs.Ran.{Ran};
 ghost use Rattle.office_ends.specs.Says.{Said, SaysWhy};
-ghost use Rattle.office_ends.specs.Words.{renewal_said};
+ghost use Rattle.office_ends.specs.Words.{renewal_said, drop_said};
 
 use crate::entry::begin_anew;
 use crate::saying::say_why;
-use crate::words::renewal_base;
+use crate::words::{renewal_base, renewal_drop};
 use keep_office::Renews;
 use office_commands::office;
 use road_io::{Sink, Source};
@@ -56,8 +57,8 @@ pub fn answered<
         (Said (E.room err.old) (E.written err.old) (E.written err.new)) (err.new ≡ err.old) }
     ensures renews { (base : ℕ) (o : Office) → renewal_said (map string_bytes words.now) ≡ Some base
         → K.Keeper.told keeper.old ≡ Some o
-        → DoesCommand (renew_answer base o) (K.Keeper.told keeper.new) result (O.written sink.old)
-        (O.written sink.new) }
+        → DoesCommand (command_answer (drop_said (map string_bytes words.now)) base o) (K.Keeper.told keeper.new) result
+        (O.written sink.old) (O.written sink.new) }
     ensures whole { (base : ℕ) (o : Office) → renewal_said (map string_bytes words.now) ≡ Some base
         → K.Keeper.told keeper.old ≡ Some o → IsRenewedOr base o (K.Keeper.told keeper.new) }
     ensures closes { (base : ℕ) → renewal_said (map string_bytes words.now) ≡ Some base
@@ -80,7 +81,7 @@ pub fn answered<
         say_why(status, keeper, why, err);
         return status;
     };
-    let status = begin_anew(alloc, base, sink, keeper);
+    let status = begin_anew(alloc, base, renewal_drop(words), sink, keeper);
     say_why(status, keeper, why, err);
     status
 }

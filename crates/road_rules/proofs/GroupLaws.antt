@@ -24,7 +24,7 @@ use Rattle.std.specs.BTreeSet.{insert_key}
 use Rattle.road_rules.specs.declared.halts.Halt.{Halt}
 use Rattle.road_rules.specs.declared.mishaps.Group.{Group}
 use Rattle.road_rules.specs.Halts.{covers, halting, halts_of, is_at}
-use Rattle.road_rules.specs.Groups.{shown_group, has_other, stands_with, has_halts, groups_of, mishap_in}
+use Rattle.road_rules.specs.Groups.{shown_group, has_other, stands_with, has_halts, groups_by, groups_of, mishap_in}
 use Rattle.road_rules.proofs.HaltLaws.{halts_among}
 
 -- runs
@@ -185,15 +185,15 @@ log_is day order =
     (range_with_len 0 (greatest_time day + 1))
 
 -- one place more
-pub groups_push : (halts : List Halt) (ps : List Place) (p : Place) →
-    groups_of halts (ps ++ p ∷ []) ≡ groups_of halts ps ++ groups_of halts (p ∷ [])
-groups_push halts [] p = refl
-groups_push halts (q ∷ ps) p = step (has_halts (q, filter (is_at q) halts)) (groups_push halts ps p)
+pub groups_push : (own : Place → List Halt) (ps : List Place) (p : Place) →
+    groups_by own (ps ++ p ∷ []) ≡ groups_by own ps ++ groups_by own (p ∷ [])
+groups_push own [] p = refl
+groups_push own (q ∷ ps) p = step (has_halts (q, own q)) (groups_push own ps p)
   where
-    step : (b : Bool) → groups_of halts (ps ++ p ∷ []) ≡ groups_of halts ps ++ groups_of halts (p ∷ []) →
-        cond b ((q, filter (is_at q) halts) ∷ groups_of halts (ps ++ p ∷ [])) (groups_of halts (ps ++ p ∷ [])) ≡ cond b
-        ((q, filter (is_at q) halts) ∷ groups_of halts ps) (groups_of halts ps) ++ groups_of halts (p ∷ [])
-    step true e = ap (λ gs. (q, filter (is_at q) halts) ∷ gs) e
+    step : (b : Bool) → groups_by own (ps ++ p ∷ []) ≡ groups_by own ps ++ groups_by own (p ∷ []) →
+        cond b ((q, own q) ∷ groups_by own (ps ++ p ∷ [])) (groups_by own (ps ++ p ∷ [])) ≡ cond b
+        ((q, own q) ∷ groups_by own ps) (groups_by own ps) ++ groups_by own (p ∷ [])
+    step true e = ap (λ gs. (q, own q) ∷ gs) e
     step false e = e
 
 -- one group more

@@ -1,5 +1,5 @@
 -- the numbers of the mean of five averages stay small
-use Rattle.std.proofs.Common.{◌≡◌, ℕ, ◌-◌, ◌+◌, ◌*◌, ◌^◌, ◌<◌, ◌≤◌, List, arith, ap, subst, Some}
+use Rattle.std.proofs.Common.{◌≡◌, ℕ, ◌+◌, ◌*◌, ◌^◌, ◌<◌, ◌≤◌, List, arith, ap, subst, Some}
 use Rattle.std.proofs.Math.Nat.{mul-le-mul}
 use Rattle.road_time.specs.declared.road.Frac.{Frac}
 use Rattle.road_time.specs.declared.road.Tuple.{Tuple}

@@ -13,7 +13,7 @@ use Rattle.road_time.specs.Notes.{speed12}
 use Rattle.road_time.specs.Tuples.{reports}
 use Rattle.road_time.specs.Tolls.{notes_of}
 use Rattle.road_time.proofs.NoteLaws.{distinct_push}
-use Rattle.road_rules.specs.Seen.{noted_vehicle, noted_speed, with_vehicle}
+use Rattle.road_rules.specs.Seen.{noted_vehicle, noted_speed, speed_if, with_vehicle}
 
 vids_step : (b : Bool) (n : Note) (notes : List Note) (vs : List ℕ) → map (λ m. m.vid) notes ≡ vs →
     map (λ m. m.vid) (cond b (n ∷ notes) notes) ≡ cons_option (cond b (Some n.vid) None) vs
@@ -75,6 +75,14 @@ speeds_are m k v (Travel time ∷ xs) = speeds_are m k v xs
 pub filter_map_more : {X Y : Type 0} (f : X → Option Y) (xs : List X) (i : ℕ) (d : X) {o : Option Y} → i < length xs →
     o ≡ f (get_or xs i d) → filter_map f (take (i + 1) xs) ≡ filter_map f (take i xs) ++ cons_option o []
 filter_map_more f xs i d h e = rw (take_more xs i d h, filter_map-append f (take i xs) (get_or xs i d ∷ []), e) refl
+
+-- what a report of a vehicle adds to the speeds of each
+pub speed_given : (v vid spd : ℕ) → cons_option (speed_if v (Some (vid, spd))) [] ≡ cond (vid == v) (spd ∷ []) []
+speed_given v vid spd = by (vid == v)
+  where
+    by : (b : Bool) → cons_option (cond b (Some spd) None) [] ≡ cond b (spd ∷ []) []
+    by true = refl
+    by false = refl
 
 -- twelve times the mean, by the sum and the number of the speeds
 pub speed12_by : (m : ℕ) (k : Stretch) (v : ℕ) (day : List Tuple) →

@@ -25,9 +25,13 @@ abbrev pub has_halts : Place × List Halt → Bool
 has_halts (place, []) = false
 has_halts (place, h ∷ hs) = true
 
+-- places with what each has, those with nothing left out
+abbrev pub groups_by : (Place → List Halt) → List Place → List (Place × List Halt)
+groups_by own places = filter has_halts (map (λ p. (p, own p)) places)
+
 -- places with the halts there, those without any left out
 abbrev pub groups_of : List Halt → List Place → List (Place × List Halt)
-groups_of halts places = filter has_halts (map (λ p. (p, filter (is_at p) halts)) places)
+groups_of halts places = groups_by (λ p. filter (is_at p) halts) places
 
 -- the accident that begins in a group at a second, if one does
 abbrev pub mishap_in : ℕ → ℕ → Place × List Halt → Option Mishap

@@ -7,7 +7,7 @@ ghost use Rattle.road_time.specs.Tolls.{notes_of};
 ghost use Rattle.road_time.specs.Tuples.{reports};
 ghost use Rattle.road_rules.specs.Flows.{shown_flow};
 
-use crate::cars::{speed12_at, vehicles_at};
+use crate::cars::{speed12_of, speeds_by_vehicle, vehicles_at};
 use road_time::{Frac, NoMemory, Stretch, Tuple};
 use std::alloc::Global;
 
@@ -18,6 +18,7 @@ pub struct Flow {
     pub speeds12: u64,
 }
 
+/// The flow of the stretch in the minute: two passes over the tuples, whatever they are.
 #[tactic(auto, using(road_time::proofs::NoteLaws::no_more_cars))]
 pub fn flow_at(
     alloc: Global,
@@ -30,9 +31,10 @@ pub fn flow_at(
     ensures bounded { IfOk result (λ f. f.speeds12 ≤ 3060 * f.cars) }
 {
     let vids = vehicles_at(alloc, tuples, in_minute, stretch)?;
+    let speeds = speeds_by_vehicle(alloc, tuples, in_minute, stretch)?;
     let mut sum: u64 = 0;
     for vid in &vids {
-        sum += speed12_at(alloc, tuples, in_minute, stretch, *vid)?;
+        sum += speed12_of(&speeds, *vid);
     }
     Ok(Flow {
         cars: vids.len() as u32,

@@ -1,21 +1,24 @@
 // The accident log of a day.
 ghost use Rattle.std.specs.Prelude.{◌≡◌, ◌≤◌, ◌+◌, ◌-◌, ◌++◌, ◌∷◌, [], ◌&&◌, not, map, length, IfOk, OnOk, ℕ, Bool};
 ghost use Rattle.std.specs.Prelude.{List};
-ghost use Rattle.std.specs.List.{filter, filter_map, fold};
+ghost use Rattle.std.specs.List.{filter_map, fold};
+ghost use Rattle.std.specs.HashMap.{get};
 ghost use Rattle.std.specs.BTreeSet.{insert_key};
 ghost use Rattle.road_time.specs.Fits.{IsDay};
 ghost use Rattle.road_time.specs.Order.{greatest_time};
-ghost use Rattle.road_time.specs.Tuples.{reports};
+ghost use Rattle.road_time.specs.Tuples.{reports, same_place};
 ghost use Rattle.road_time.specs.Log.{places_of, stands_first, stands_for, ends_at as defined_ends_at, log_of};
-ghost use Rattle.road_rules.specs.Halts.{is_at as defined_is_at, halts_of};
+ghost use Rattle.road_rules.specs.Halts.{halts_of};
+ghost use Rattle.road_rules.specs.Gathered.{kept_items};
 ghost use Rattle.road_rules.specs.Groups.{stands_with as defined_stands_with, has_other as defined_has_other};
-ghost use Rattle.road_rules.specs.Groups.{shown_group, groups_of, mishap_in};
+ghost use Rattle.road_rules.specs.Groups.{shown_group, groups_by, groups_of, mishap_in};
 
 use crate::halts::{Halt, covers, halts};
 use crate::places::report_of;
+use crate::spots::halts_by_place;
 use road_time::{Mishap, NoMemory, Place, Tuple};
 use std::alloc::Global;
-use std::collections::BTreeSet;
+use std::collections::{BTreeSet, HashMap};
 
 /// A place, and who stands there when.
 #[derive(Drop)]
@@ -149,30 +152,31 @@ fn places(alloc: Global, tuples: &[Tuple]) -> Result<Vec<Place>, NoMemory>
     Ok(places.iter().copied().collect(alloc)?)
 }
 
-/// The halts at the place.
-fn halts_at(alloc: Global, halts: &[Halt], place: Place) -> Result<Vec<Halt>, NoMemory>
-    ensures { IfOk result (λ some. some.items ≡ filter (defined_is_at place) halts.now) }
+/// The halts that are kept of the place.
+fn halts_at(
+    alloc: Global,
+    by_place: &HashMap<Place, Vec<Halt>>,
+    place: Place,
+) -> Result<Vec<Halt>, NoMemory>
+    ensures { IfOk result (λ some. some.items ≡ kept_items (get same_place by_place.now place)) }
 {
-    let mut some: Vec<Halt> = Vec::new(alloc);
-    for halt in halts {
-        if halt.place == place {
-            some.push(*halt)?;
-        }
+    match by_place.get(&place) {
+        None => Ok(Vec::new(alloc)),
+        Some(there) => Ok(there.iter().copied().collect(alloc)?),
     }
-    Ok(some)
 }
 
 /// Adds the place with its halts, if it has some.
 fn add_group(
     alloc: Global,
     groups: &mut Vec<Group>,
-    halts: &[Halt],
+    by_place: &HashMap<Place, Vec<Halt>>,
     place: Place,
 ) -> Result<(), NoMemory>
-    ensures { OnOk result (map shown_group groups.new.items ≡ map shown_group groups.old.items ++ groups_of halts.now
-        (place ∷ [])) }
+    ensures { OnOk result (map shown_group groups.new.items ≡ map shown_group groups.old.items
+        ++ groups_by (λ p. kept_items (get same_place by_place.now p)) (place ∷ [])) }
 {
-    let some = halts_at(alloc, halts, place)?;
+    let some = halts_at(alloc, by_place, place)?;
     if !some.is_empty() {
         groups.push(Group { place, halts: some })?;
     }
@@ -180,12 +184,17 @@ fn add_group(
 }
 
 /// The places where somebody stands, each with its halts.
-fn groups_at(alloc: Global, places: &[Place], halts: &[Halt]) -> Result<Vec<Group>, NoMemory>
-    ensures { IfOk result (λ groups. map shown_group groups.items ≡ groups_of halts.now places.now) }
+fn groups_at(
+    alloc: Global,
+    places: &[Place],
+    by_place: &HashMap<Place, Vec<Halt>>,
+) -> Result<Vec<Group>, NoMemory>
+    ensures { IfOk result (λ groups. map shown_group groups.items
+        ≡ groups_by (λ p. kept_items (get same_place by_place.now p)) places.now) }
 {
     let mut groups: Vec<Group> = Vec::new(alloc);
     for place in places {
-        add_group(alloc, &mut groups, halts, *place)?;
+        add_group(alloc, &mut groups, by_place, *place)?;
     }
     Ok(groups)
 }
@@ -197,7 +206,8 @@ fn groups(alloc: Global, tuples: &[Tuple]) -> Result<Vec<Group>, NoMemory>
 {
     let places = places(alloc, tuples)?;
     let halts = halts(alloc, tuples)?;
-    let groups = groups_at(alloc, places.as_slice(), halts.as_slice())?;
+    let by_place = halts_by_place(alloc, halts.as_slice())?;
+    let groups = groups_at(alloc, places.as_slice(), &by_place)?;
     Ok(groups)
 }
 

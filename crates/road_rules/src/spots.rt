@@ -1,15 +1,17 @@
-// A day in order, with its reports of each stretch and minute put together, and when vehicles stand in each stretch.
+// A day in order, with its reports of each stretch and minute put together, and when vehicles stand in each stretch and
+// at each place.
 ghost use Rattle.std.specs.Prelude.{◌≡◌, ◌++◌, ◌∷◌, [], IfOk, OnOk, if◌then◌else◌};
 ghost use Rattle.std.specs.HashMap.{get};
 ghost use Rattle.std.specs.List.{filter};
-ghost use Rattle.road_time.specs.Tuples.{reports, same_stretch};
+ghost use Rattle.road_time.specs.Tuples.{reports, same_place, same_stretch};
+ghost use Rattle.road_time.specs.declared.road.Place.{Place as PlaceValue};
 ghost use Rattle.road_time.specs.declared.road.Stretch.{Stretch as StretchValue};
 ghost use Rattle.road_rules.specs.declared.spots.Spot.{Spot as SpotValue};
-ghost use Rattle.road_rules.specs.Halts.{is_in};
+ghost use Rattle.road_rules.specs.Halts.{is_at, is_in};
 ghost use Rattle.road_rules.specs.Gathered.{same_spot, spot_of as defined_spot_of, is_of, kept_items, IsGathered};
 
 use crate::halts::{Halt, halts};
-use road_time::{NoMemory, Report, Stretch, Tuple};
+use road_time::{NoMemory, Place, Report, Stretch, Tuple};
 use std::alloc::Global;
 use std::collections::HashMap;
 
@@ -106,6 +108,39 @@ fn halts_by_stretch(alloc: Global, halts: &[Halt]) -> Result<HashMap<Stretch, Ve
         add_halt_to(alloc, &mut by_stretch, halt.place.stretch(), halt)?;
     }
     Ok(by_stretch)
+}
+
+/// Adds a halt to those at its place.
+fn add_halt_at(
+    alloc: Global,
+    by_place: &mut HashMap<Place, Vec<Halt>>,
+    place: Place,
+    halt: &Halt,
+) -> Result<(), NoMemory>
+    ensures { OnOk result ((p : PlaceValue) → kept_items (get same_place by_place.new p)
+        ≡ kept_items (get same_place by_place.old p) ++ (if same_place place p then halt.now ∷ [] else [])) }
+{
+    match by_place.get_mut(&place) {
+        Some(there) => there.push(*halt)?,
+        None => {
+            let mut there = Vec::new(alloc);
+            there.push(*halt)?;
+            by_place.insert(place, there)?;
+        }
+    }
+    Ok(())
+}
+
+/// The halts at each place.
+pub fn halts_by_place(alloc: Global, halts: &[Halt]) -> Result<HashMap<Place, Vec<Halt>>, NoMemory>
+    ensures { IfOk result (λ by_place. (p : PlaceValue) → kept_items (get same_place by_place p)
+        ≡ filter (is_at p) halts.now) }
+{
+    let mut by_place = HashMap::new(alloc);
+    for halt in halts {
+        add_halt_at(alloc, &mut by_place, halt.place, halt)?;
+    }
+    Ok(by_place)
 }
 
 /// The day of the tuples, put together.
