@@ -23,6 +23,8 @@ from write_docs import TOP, crates
 
 NO_COPY = shutil.ignore_patterns("out", "must-fail")
 A_CHECK = 4.0
+# the most memory that a group of processes may have, by the two ways in which Linux says it
+LIMITS = ("/sys/fs/cgroup/memory.max", "/sys/fs/cgroup/memory/memory.limit_in_bytes")
 
 
 def stand_on(names):
@@ -38,8 +40,12 @@ def stand_on(names):
 
 def at_a_time(gigabytes):
     """How many crates are proved at a time, if each takes so much memory."""
-    free = re.search(r"^MemAvailable:\s+(\d+) kB", pathlib.Path("/proc/meminfo").read_text(), re.M)
-    return max(1, min(len(os.sched_getaffinity(0)), int(int(free[1]) / 1048576 // gigabytes)))
+    told = re.search(r"^MemAvailable:\s+(\d+) kB", pathlib.Path("/proc/meminfo").read_text(), re.M)
+    free = int(told[1]) * 1024
+    for limit in map(pathlib.Path, LIMITS):
+        if limit.is_file() and limit.read_text().strip().isdigit():
+            free = min(free, int(limit.read_text()))
+    return max(1, min(len(os.sched_getaffinity(0)), int(free / (1 << 30) // gigabytes)))
 
 
 def copy(names, to):
