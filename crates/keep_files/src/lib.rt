@@ -26,6 +26,7 @@ mod file_keeper;
 mod keeper_in;
 mod kept;
 mod kept_file;
+mod missed;
 mod objects;
 mod opens;
 mod page_files;

@@ -12,11 +12,13 @@ ghost use Rattle.keep_trees.specs.Pages.{our_trees};
 ghost use Rattle.keep_files.specs.Looks.{AreFound, FindsTrees};
 ghost use Rattle.keep_files.specs.Files.{AreLeft, FileGives, HaveOurForm, OfClosed, OfFiles, Shows, WereOpened};
 ghost use Rattle.keep_files.specs.Openings.{AsStore, AsTrees, AsWhole, FromPath, put_part, read_part};
-ghost use Rattle.keep_files.specs.Refusals.{AreRefused, RefusesFiles, RefusesPath};
+ghost use Rattle.keep_files.specs.Causes.{IsOfChecking};
+ghost use Rattle.keep_files.specs.Refusals.{AreRefused, IfFailed, IfForeign, RefusesFiles, RefusesPath};
 
 use crate::at_path::AtPath;
-use crate::cause::{Cause, cause_of};
+use crate::cause::{Cause, cause_of, cause_of_checking};
 use crate::kept::Kept;
+use crate::missed::Missed;
 use crate::objects::our_objects;
 use keep_trees::PageTrees;
 use sqlite::{Connection, FileStore, Files, Options};
@@ -24,8 +26,8 @@ use sqlite_disk::Disk;
 use sqlite_pager::Pager;
 use sqlite_pages::Pages;
 use sqlite_pool::Pool;
-use sqlite_store::Unopened;
-use sqlite_wal::{PageSize, probe_first_page, probe_page_size};
+use sqlite_store::{OpenError, Unopened};
+use sqlite_wal::{Error as WalError, PageSize, probe_first_page, probe_page_size};
 use std::alloc::Global;
 use std::rt::HostRuntime;
 
@@ -36,30 +38,43 @@ const PAGE_SIZE: usize = 4096;
 const NO_SUMS: u32 = 0x0040_2020;
 
 /// The size of the pages of files, where it is ours and the first page is that of a database whose pages have no sums.
-/// Nothing is written.
-fn our_page_size<D: Disk>(alloc: Global, files: &mut Files<D>) -> Option<PageSize>
+/// Nothing is written. Else why the first page could not be looked at, none where it is another's.
+fn our_page_size<D: Disk>(alloc: Global, files: &mut Files<D>) -> Result<PageSize, Option<Cause>>
     requires log { IsTrue (D.Disk.is_usable files.old.log) }
     requires db { IsTrue (D.Disk.is_usable files.old.db) }
     ensures log { IsTrue (D.Disk.is_usable files.new.log) }
     ensures db { IsTrue (D.Disk.is_usable files.new.db) }
     ensures reads { OnlyReadsBoth D.Disk (files.old.log, files.old.db) (files.new.log, files.new.db) }
-    ensures sized { IfSome result (λ size. bytes_of size ≡ 4096) }
-    ensures form { IfSome result (λ _. AreClean D.Disk files.new.log files.new.db
+    ensures failed { IfErr result (λ why. IfSome why IsOfChecking) }
+    ensures sized { IfOk result (λ size. bytes_of size ≡ 4096) }
+    ensures form { IfOk result (λ _. AreClean D.Disk files.new.log files.new.db
         → HaveOurForm (image_of D.Disk files.old)) }
 {
     let Ok(Some(size)) = probe_page_size(files) else {
-        return None;
+        return Err(None);
     };
     if size.bytes() != PAGE_SIZE {
-        return None;
+        return Err(None);
     }
-    let Ok(head) = probe_first_page(alloc, files, size) else {
-        return None;
+    let head = match probe_first_page(alloc, files, size) {
+        Ok(head) => head,
+        Err(error) => return Err(why_unread(error)),
     };
     if head.0 != b'S' || head.1 != NO_SUMS {
-        return None;
+        return Err(None);
     }
-    Some(size)
+    Ok(size)
+}
+
+/// Why a first page could not be looked at, none where the log beside it is another's.
+fn why_unread(error: WalError) -> Option<Cause>
+    ensures { IfSome result IsOfChecking }
+{
+    match error {
+        WalError::OutOfMemory => Some(cause_of_checking(OpenError::OutOfMemory, false)),
+        WalError::Io(_) => Some(cause_of_checking(OpenError::Io, false)),
+        _ => None,
+    }
 }
 
 /// The pages of files, of which nothing is read yet.
@@ -136,7 +151,7 @@ pub fn trees_of<D: Disk + Drop>(
     ensures opened { IfOk result (λ trees. OfFiles D.Disk files (AsTrees trees)) }
     ensures left { IfErr result (AreLeft D.Disk files) }
 {
-    let Some(size) = our_page_size(alloc, &mut files) else {
+    let Ok(size) = our_page_size(alloc, &mut files) else {
         return Err(files);
     };
     let pool = match pool_over(alloc, files, size, seed) {
@@ -244,28 +259,44 @@ fn unopened_over<D: Disk + Drop>(
     }
 }
 
-/// The store of files whose pages and trees are sound and ours. Other files are given back.
+/// The store of files whose pages and trees are sound and ours. Other files are given back; where there was no memory
+/// for it, or the disk failed, they are let go.
 fn checked<D: Disk + Drop>(
     alloc: Global,
     mut files: Files<D>,
     seed: u64,
-) -> Result<FileStore<D>, Files<D>>
+) -> Result<FileStore<D>, Missed<Files<D>>>
     ensures opened { IfOk result (λ store. OfFiles D.Disk files (AsStore store)) }
-    ensures left { IfErr result (AreLeft D.Disk files) }
+    ensures left { IfErr result (IfForeign (AreLeft D.Disk files)) }
+    ensures failed { IfErr result (IfFailed IsOfChecking) }
 {
     if !files.may_be_used() {
-        return Err(files);
+        return Err(Missed::Foreign(files));
     }
-    let Some(size) = our_page_size(alloc, &mut files) else {
-        return Err(files);
+    let size = match our_page_size(alloc, &mut files) {
+        Ok(size) => size,
+        Err(None) => return Err(Missed::Foreign(files)),
+        Err(Some(cause)) => {
+            drop(files);
+            return Err(Missed::Failed(cause));
+        }
     };
+    let before = files.tally().refused;
     let unopened = match unopened_over(alloc, files, size, seed) {
         Ok(unopened) => unopened,
-        Err(files) => return Err(files),
+        Err(files) => {
+            drop(files);
+            return Err(Missed::Failed(cause_of_checking(OpenError::OutOfMemory, false)));
+        }
     };
     match unopened.open() {
         Ok(store) => Ok(store),
-        Err((_, unopened)) => Err(unopened.close()),
+        Err((OpenError::Refused, unopened)) => Err(Missed::Foreign(unopened.close())),
+        Err((error, unopened)) => {
+            let no_room = before < unopened.tally().refused;
+            drop(unopened.close());
+            Err(Missed::Failed(cause_of_checking(error, no_room)))
+        }
     }
 }
 
@@ -283,7 +314,8 @@ pub fn stored<D: AtPath>(
     };
     let files = match checked(rt.alloc(), files, seed) {
         Ok(store) => return Ok(Kept::Trees(store)),
-        Err(files) => files,
+        Err(Missed::Foreign(files)) => files,
+        Err(Missed::Failed(cause)) => return Err(cause),
     };
     match connected(rt, files, seed) {
         Ok(conn) => Ok(Kept::Whole(conn)),

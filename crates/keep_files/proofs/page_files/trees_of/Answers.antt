@@ -27,18 +27,18 @@ returns-in-Ok-listed-clause-opened g c =
     Follows-trans found mid last c.in-Ok-folded.ensures.kept c.in-Ok-listed.ensures.kept.in_order in
     record {
       sized =
-          size ∙ c.in-Ok-recovered.ensures.kept.kept.size ∙ c.in-Ok.ensures.sized ∙ c.in-Some.ensures.sized;
-      form = λ sure. c.in-Some.ensures.form
-          (were_clean c.in-Ok.pool seen.log seen.db c.in-Ok.ensures.files
+          size ∙ c.in-Ok-recovered.ensures.kept.kept.size ∙ c.in-Ok-pool_over.ensures.sized ∙ c.in-Ok.ensures.sized;
+      form = λ sure. c.in-Ok.ensures.form
+          (were_clean c.in-Ok-pool_over.pool seen.log seen.db c.in-Ok-pool_over.ensures.files
           (c.in-Ok-recovered.ensures.kept.kept.clean (was sure)));
-      shown = λ sure. shows_on (image c.in-Ok.pool) (image_of g.D.Disk c.args.files) found last
-          (image_is g.D.Disk seen c.args.files _ c.in-Ok.ensures.files
+      shown = λ sure. shows_on (image c.in-Ok-pool_over.pool) (image_of g.D.Disk c.args.files) found last
+          (image_is g.D.Disk seen c.args.files _ c.in-Ok-pool_over.ensures.files
           (read_same c.args.files seen c.our_page_size.ensures.reads))
           size (c.in-Ok-listed.ensures.same ∙ c.in-Ok-folded.ensures.same (then sure))
           (c.in-Ok-recovered.ensures.shows (was sure));
-      crash = λ sure. pages_before g.D.Disk c.args.files seen c.in-Ok.pool last c.our_page_size.ensures.reads
-          c.in-Ok.ensures.files (c.in-Ok.ensures.sized ∙ c.in-Some.ensures.sized)
-          (λ clean. still_before g.met.D.Disk.seen_may_stay c.in-Ok.pool found last
+      crash = λ sure. pages_before g.D.Disk c.args.files seen c.in-Ok-pool_over.pool last c.our_page_size.ensures.reads
+          c.in-Ok-pool_over.ensures.files (c.in-Ok-pool_over.ensures.sized ∙ c.in-Ok.ensures.sized)
+          (λ clean. still_before g.met.D.Disk.seen_may_stay c.in-Ok-pool_over.pool found last
           c.in-Ok-recovered.ensures.kept.kept.size (c.in-Ok-recovered.ensures.ready (was sure))
           (c.in-Ok-recovered.ensures.found (was sure)) follows)
           (clean_of (pool.state last).is_clean sure);
@@ -58,10 +58,10 @@ returns-in-Err-clause-left g c =
 -- the pages could not be recovered
 pub returns-in-Err-recovered-clause-left : goal.returns-in-Err-recovered-clause-left
 returns-in-Err-recovered-clause-left g c =
-    left_pages g.D.Disk c.args.files c.our_page_size.new.files c.in-Ok.pool c.in-Err-recovered.pool
-    c.our_page_size.ensures.reads c.in-Ok.ensures.files (c.in-Ok.ensures.sized ∙ c.in-Some.ensures.sized)
+    left_pages g.D.Disk c.args.files c.our_page_size.new.files c.in-Ok-pool_over.pool c.in-Err-recovered.pool
+    c.our_page_size.ensures.reads c.in-Ok-pool_over.ensures.files (c.in-Ok-pool_over.ensures.sized ∙ c.in-Ok.ensures.sized)
     (λ clean. c.in-Err-recovered.ensures.kept.crash) g.met.D.Disk.seen_may_stay c.close.result
-    c.in-Some.ensures.form c.in-Err-recovered.ensures.kept.kept.clean c.close.ensures
+    c.in-Ok.ensures.form c.in-Err-recovered.ensures.kept.kept.clean c.close.ensures
 
 -- they do not list our trees
 pub returns-in-Err-listed-clause-left : goal.returns-in-Err-listed-clause-left
@@ -76,12 +76,12 @@ returns-in-Err-listed-clause-left g c =
     (clean_of (pool.state mid).is_clean (omega (arith, now, c.in-Err-listed.ensures.back.clean))) in
     let follows : pool.Follows found last =
     Follows-trans found mid last c.in-Ok-folded.ensures.kept c.in-Err-listed.ensures.back.in_order in
-    left_pages g.D.Disk c.args.files c.our_page_size.new.files c.in-Ok.pool last c.our_page_size.ensures.reads
-    c.in-Ok.ensures.files (c.in-Ok.ensures.sized ∙ c.in-Some.ensures.sized)
-    (λ clean. still_before g.met.D.Disk.seen_may_stay c.in-Ok.pool found last
+    left_pages g.D.Disk c.args.files c.our_page_size.new.files c.in-Ok-pool_over.pool last c.our_page_size.ensures.reads
+    c.in-Ok-pool_over.ensures.files (c.in-Ok-pool_over.ensures.sized ∙ c.in-Ok.ensures.sized)
+    (λ clean. still_before g.met.D.Disk.seen_may_stay c.in-Ok-pool_over.pool found last
     c.in-Ok-recovered.ensures.kept.kept.size (c.in-Ok-recovered.ensures.ready (was clean))
     (c.in-Ok-recovered.ensures.found (was clean)) follows)
-    g.met.D.Disk.seen_may_stay c.close-in-Err-listed.result c.in-Some.ensures.form
+    g.met.D.Disk.seen_may_stay c.close-in-Err-listed.result c.in-Ok.ensures.form
     (λ clean. c.in-Ok-recovered.ensures.kept.kept.clean (was clean)) c.close-in-Err-listed.ensures
 
 -- what their log has could not be copied
@@ -91,10 +91,10 @@ returns-in-Err-folded-clause-left g c =
     let last = c.in-Err-folded.pool in
     let was : IsTrue (pool.state last).is_clean → IsTrue (pool.state found).is_clean =
     λ clean. c.in-Err-folded.ensures.kept.keeps.stays.clean clean in
-    left_pages g.D.Disk c.args.files c.our_page_size.new.files c.in-Ok.pool last c.our_page_size.ensures.reads
-    c.in-Ok.ensures.files (c.in-Ok.ensures.sized ∙ c.in-Some.ensures.sized)
-    (λ clean. still_before g.met.D.Disk.seen_may_stay c.in-Ok.pool found last
+    left_pages g.D.Disk c.args.files c.our_page_size.new.files c.in-Ok-pool_over.pool last c.our_page_size.ensures.reads
+    c.in-Ok-pool_over.ensures.files (c.in-Ok-pool_over.ensures.sized ∙ c.in-Ok.ensures.sized)
+    (λ clean. still_before g.met.D.Disk.seen_may_stay c.in-Ok-pool_over.pool found last
     c.in-Ok-recovered.ensures.kept.kept.size (c.in-Ok-recovered.ensures.ready (was clean))
     (c.in-Ok-recovered.ensures.found (was clean)) c.in-Err-folded.ensures.kept)
-    g.met.D.Disk.seen_may_stay c.close-in-Err-folded.result c.in-Some.ensures.form
+    g.met.D.Disk.seen_may_stay c.close-in-Err-folded.result c.in-Ok.ensures.form
     (λ clean. c.in-Ok-recovered.ensures.kept.kept.clean (was clean)) c.close-in-Err-folded.ensures
