@@ -1,9 +1,9 @@
 """Rows of the commands: words, what is read and the notices beside it in; bytes and a status out.
 
 `trials/try_commands.py` runs them over a built program. What is to come of a row was worked out by hand from docs/RULES.md and
-docs/FORMATS.md, or by another program where that is said, never from what the program writes. Each function is a table, as a test
-is; each row of it has a name that says what it tries, and one or more runs, in turn in one folder that is new. Where what is to
-come is told by another run, a function is a relation: it gives a name, what was found and what was wanted.
+docs/FORMATS.md, or by another program where that is said, never from what the program writes. Each function is a table, as a
+test is; each row of it has a name that says what it tries, and one or more runs, in turn in one folder that is new. Where what
+is to come is told by another run, a function is a relation: it gives a name, what was found and what was wanted.
 """
 import dataclasses
 
@@ -12,7 +12,7 @@ TABLES, RELATIONS = {}, {}
 
 @dataclasses.dataclass(frozen=True)
 class Run:
-    """A command: its words, what it writes, its status, what it reads, and the notices of its folder, if they are put there anew."""
+    """A command: its words, what it writes, its status, what it reads, and the notices put into its folder, if any are."""
 
     words: tuple
     text: str
@@ -306,7 +306,7 @@ def audits_and_their_ends():
 
 @table
 def differences_are_told():
-    """The differences that an audit tells before its closing line: one line missing, one too many, another one, and more of these."""
+    """The differences that an audit tells before its closing line: one missing, one too many, another one, and more of these."""
     ten = "audit 100 --show 10 --shards=2"
     fourth = "# differs line 4 wanted 1,180,3,10 found "
     second = "2 wanted 0,2,0,-1,0 found malformed\n# differs line 2 wanted 0,2,0,-1,0 found malformed\n"
@@ -464,6 +464,92 @@ def a_day_by_any_backlog():
     return rows | {"one line, and a backlog of one": [run("answers --backlog=1 100", ANSWERED, 0, ONE)]}
 
 
+# The digests of no byte and of `a`.
+EMPTY = "e3b0c44298fc1c149afbf4c8996fb92427ae41e4649b934ca495991b7852b855"
+OF_ABC = "ca978112ca1bbdcafac231b39a23dc4da786eff8147c4e72b9807785afee48bb"
+
+
+def statement(counts, digest, notices, tariffs, total):
+    """What `day 100` tells of a day on which expressway 0 alone was charged, if any was."""
+    size, tuples, told_of = counts
+    of_ways = f"xway   0 {total:20}\n" if total else ""
+    return (f"day 100\ndigest {digest}\nbytes {size}\ntuples {tuples}\nnotices {told_of}\nnotices-digest {notices}\n"
+            f"tariffs {tariffs}\ntotal {total}\n" + of_ways)
+
+
+@table
+def what_is_kept_by_commands():
+    """What commands keep and tell of it, one after the other; the same rows stand in example_office, over other keepers too."""
+    nothing = statement((0, 0, 0), EMPTY, EMPTY, EMPTY, 0)
+    charged = FIFTY_ONE + LEAVES
+    day = "666b2653813265096661d01ac7f9fe12bfaa7a34dbef27d29f3c255b8d8c59df"
+    late = filled("0,10,1,30,0,1,0,10,52800", "0,10,2,30,0,1,0,10,52800", "0,9,3,30,0,1,0,10,52800")
+    turned = filled("0,30,1,30,0,1,0,10,52800", "2,0,1,-1,-1,-1,-1,-1,-1,9", "0,0,2,30,0,1,0,10,52800")
+    asking = filled("3,0,7,-1,0,-1,-1,-1,-1,1,-1,-1,-1,-1,69", "4,0", "3,0,7,-1,0,-1,-1,-1,-1,2,-1,-1,-1,-1,2")
+    two = "7,69,0,28\n7,1,0,5\n"
+    fivefold = LEFT.replace("30,2\n", "30,5\n").replace("9,2\n", "9,5\n")
+    return {
+        "a day without a line, and what comes behind it": [
+            run("day 100", "# no day 100\n", 3),
+            run("export 100", "# no day 100\n", 3),
+            run("vehicle 7 31 99", "vehicle 7 days 31 to 99\ntotal                          0\n"),
+            run("import 100", "# stored day 100 tuples 0 notices 0 total 0\n"),
+            run("day 100", nothing),
+            run("export 100", "vid,day,xway,tolls\n"),
+            run("import 100", "# already day 100 tuples 0 notices 0 total 0\n"),
+            run("import 100", f"# differs day 100 kept {EMPTY} found {OF_ABC}\n", 3, "abc"),
+            run("import 99", "# passed day 99 last 100\n", 3, ONE),
+            run("day 99", "# no day 99\n", 3),
+            run("answers 99", NOTICE + "# answered day 99 tuples 1 notices 1\n", 0, ONE),
+            run("day 100", nothing),
+            run("past 100", "# past late last 100\n", 3, two),
+        ],
+        "a charge that is kept": [
+            run("import 100", LEFT + STORED, 0, charged),
+            run("day 100", statement((2410, 56, 55), day, "59b645c06264fdf5f9167ccefa44268cbcc627bbbe2e29804619ebc7dc3810d3",
+                                     EMPTY, 2)),
+            run("export 100", "vid,day,xway,tolls\n100,100,0,2\n"),
+            run("vehicle 100 100 100", "vehicle 100 days 100 to 100\n    100   0                    2\n"
+                                       "total                          2\n"),
+            run("import 100", STORED.replace("stored", "already"), 0, charged),
+        ],
+        "a history, and what comes behind it": [
+            run("past 100", "# refused line 2 fields 3\n", 2, "7,69,0,28\n7,1,0\n"),
+            run("past 100", "# refused line 3 twice\n", 2, "7,1,0,0\n\n7,01,-0,5\n"),
+            run("past 100", "# past base 100 rows 2\n", 0, two),
+            run("past 100", "# already past base 100 rows 2\n", 0, two),
+            run("answers 100", "3,0,1,28\n3,0,2,0\n# answered day 100 tuples 3 notices 2\n", 0, asking),
+            run("vehicle 7 31 99", "vehicle 7 days 31 to 99\n     31   0                   28\n     99   0                    5\n"
+                                   "total                         33\n"),
+            run("day 99", "# no day 99\n", 3),
+            run("export 99", "# no day 99\n", 3),
+            run("import 99", "# passed day 99 last 99\n", 3),
+            run("past 101", "# past kept base 100\n", 3, two),
+            run("past 100", "# differs past 100 kept 2f012d339c603aca9d96284ce171a92752efb925ace45b1aa77b7d1498a2ceef"
+                            f" found {EMPTY}\n", 3),
+            run("import 100", "3,0,1,28\n3,0,2,0\n# stored day 100 tuples 3 notices 2 total 0\n", 0, asking),
+        ],
+        "a refused day, and a tariff that comes and goes": [
+            run("import 100", "0,1,10,-1,0\n0,2,10,-1,0\n# refused line 3 late 10 9\n", 2, late),
+            run("day 100", "# no day 100\n", 3),
+            run("tariff 0 50 40 5", "# tariff xway 0 crowd 50 speed 40 factor 5\n"),
+            run("tariffs", "0,50,40,5\n"),
+            run("import 100", fivefold + STORED.replace("total 2", "total 5"), 0, charged),
+            run("day 100", statement((2410, 56, 55), day, "d0a4725564618980ca7e8f0fce9a9362227b7cc2739d7db03846e608bde7deea",
+                                     "1c59c938c844f167fdb7698ee3fb002b45e6543dc91528ad8b5699d947b89427", 5)),
+            run("tariff 0 50 40 2", "# tariff xway 0 crowd 50 speed 40 factor 2\n"),
+            run("tariffs", ""),
+            run("import 100", STORED.replace("stored", "already").replace("total 2", "total 5"), 0, charged),
+        ],
+        "lines that come late, too late and in time": [
+            run("import 100 --late 29", "0,1,30,-1,0\n# refused line 2 late 30 0\n", 2, turned),
+            run("import 100 --late 30",
+                "2,0,9,0\n0,2,0,-1,0\n0,1,30,-1,0\n# stored day 100 tuples 3 notices 3 total 0\n", 0, turned),
+            run("export 100", "vid,day,xway,tolls\n"),
+        ],
+    }
+
+
 # The file of seed 1, three vehicles, a minute and a crash, as it was worked out by another program; and what is kept of it.
 SMALL = filled("0,7,1,0,0,2,0,44,234960", "0,8,2,0,0,2,0,44,234960", "0,37,1,0,0,2,0,44,234960", "0,38,2,0,0,2,0,44,234960",
                "0,52,3,36,0,0,1,40,211300")
@@ -517,3 +603,12 @@ def an_hour_and_its_audits(run):
         for workers in (1, 4):
             audited = run(f"audit 100 --shards={shards} --workers={workers}", given=hour, notices=notices)
             yield f"an hour by {shards} shards and {workers} workers", audited, agree
+
+
+@relation
+def an_hour_rehearsed_and_imported(run):
+    """The hour is generated and then imported with the counts of its rehearsal."""
+    sizes = "1 --vehicles 4000 --minutes 60 --crashes 2"
+    told = run(f"rehearse {sizes}").split()
+    stored = run("import 100", given=run(f"generate {sizes}")).splitlines()[-1].split()
+    yield "an hour imported as rehearsed", stored[:4] + stored[5::2], ["#", "stored", "day", "100", *told[7:10:2], told[13]]

@@ -3,11 +3,12 @@
 
     python3 trials/try_commands.py PROGRAM
 
-PROGRAM is the executable toll_office. The rows stand in `rows_of_commands.py`. What a command must write of the days is worked out here, from the days themselves, from what
-`examples/plain.c` says of them, which is compiled, and from what the other commands wrote. The example day is kept as day
-100 behind its history, and the hundred days are 100 to 199, each of the same traffic that a seed makes. Last of all the
-list of differences of `audit --show` is compared with one worked out here, over notices that were changed at random. The
-script ends with status 1 at the first difference, and says how many commands it ran.
+PROGRAM is the executable toll_office. The rows stand in `rows_of_commands.py`. What a command must write of the days is
+worked out here, from the days themselves, from what `examples/plain.c` says of them, which is compiled, and from what the
+other commands wrote. The example day is kept as day 100 behind its history, and the hundred days are 100 to 199, each of the
+same traffic that a seed makes. Last of all the list of differences of `audit --show` is compared with one worked out here,
+over notices that were changed at random. The script ends with status 1 at the first difference, and says how many rows and
+commands it ran.
 """
 import collections
 import csv
