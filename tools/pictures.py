@@ -289,8 +289,8 @@ def crate_layers():
     return p
 
 
-BARS = [("sha256sum", "sha256sum", "violet"), ("answers, 1 worker", "answers", "green"), ("unproved, answers", "C: answers", "line"),
-        ("import, 1 worker", "import", "blue"), ("unproved, import", "C: import", "line")]
+BARS = [("sha256sum", "sha256sum", "violet"), ("answers, 1 worker", "answers, 1 worker", "green"),
+        ("answers, 4 workers", "4 workers", "green"), ("import, 1 worker", "import, 1 worker", "blue"), ("import, 4 workers", "4 workers", "blue")]
 
 
 def speed():
@@ -300,8 +300,8 @@ def speed():
     days = {day: int(it["lines"]) for (day, _), it in rows.items()}
     p = Picture(900, 116 + len(days) * 128, "Processor and wall time a line")
     p.text(20, 28, "Nanoseconds a line (shorter is better)", "text", 14, bold=True)
-    most = max(float(it[kind]) for it in rows.values() for kind in ("processor", "wall"))
-    for left, kind, head in ((120, "processor", "of processors, all threads together"), (520, "wall", "by the clock")):
+    most = max(float(rows[day, it[0]][kind]) for day in days for it in BARS for kind in ("processor", "wall"))
+    for left, kind, head in ((110, "processor", "of processors, all threads together"), (510, "wall", "by the clock")):
         p.text(left, 56, head, "soft", 13)
         for k, (day, lines) in enumerate(days.items()):
             top = 68 + k * 128
@@ -310,13 +310,12 @@ def speed():
                 p.text(20, top + 30, f"{lines / 1e6:g} million", "soft", 12)
             for i, (command, name, colour) in enumerate(BARS):
                 value, y = float(rows[day, command][kind]), top + i * 22
-                wide = value / most * 230
-                p.box(left + 90, y, wide, 16, "grey-box" if colour == "line" else f"{colour}-box", colour, 2)
-                p.text(left + 84, y + 13, name, "soft", 12, "end")
-                p.text(left + 96 + wide, y + 13, f"{value:.0f}", "text", 12)
+                wide = value / most * 220
+                p.box(left + 116, y, wide, 16, f"{colour}-box", colour, 2)
+                p.text(left + 110, y + 13, name, "soft", 12, "end")
+                p.text(left + 122 + wide, y + 13, f"{value:.0f}", "text", 12)
     base = 68 + len(days) * 128
-    p.text(20, base + 8, "One worker. answers and import are the proved program, which uses more threads than one; C is an unproved program "
-           "of one thread.", "soft", 12)
+    p.text(20, base + 8, "With one worker, too, the program has more threads than one: helpers, and for import two that take digests.", "soft", 12)
     p.text(20, base + 26, "The greatest day has 256 expressways and 500,000 vehicles, the others one expressway.", "soft", 12)
     return p
 

@@ -107,15 +107,10 @@ def speed_table():
             "| Day | Lines | Command | Processor ns a line | Wall ns a line | Wall, times `sha256sum` | MB |",
             "|---|---|---|---|---|---|---|"]
     base = {it["day"]: float(it["wall"]) for it in runs if it["command"] == "sha256sum"}
-    plain = {it["day"]: float(it["wall"]) for it in runs if it["command"].startswith("unproved, import")}
-    beside = [f"{float(it['wall']) / plain[it['day']]:.2f} ({it['day']})" for it in runs
-              if it["command"] == "import, 1 worker" and it["day"] in plain]
     for it in runs:
         times = float(it["wall"]) / base[it["day"]]
         rows.append(f"| {it['day']} | {int(it['lines']):,} | `{it['command']}` | {it['processor']} | {it['wall']} | {times:.2f} "
                     f"| {it['megabytes']} |")
-    if beside:
-        rows += ["", f"Wall time of `import` with one worker, times that of the unproved program: {', '.join(beside)}."]
     return "\n".join(rows)
 
 

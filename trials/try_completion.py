@@ -34,6 +34,7 @@ ROWS = [
     ("toll_office import 100 d", "toll_office import 100 d"),
     ("toll_office d", "toll_office day days "),
     ("toll_office days --", "toll_office days --"),
+    ("toll_office renew 108 --", "toll_office renew 108 --drop "),
     ("toll_serve 8080 --sessions 5 --", "toll_serve 8080 --sessions 5 --readers "),
     ("toll_serve 8080 > la", "toll_serve 8080 > late.csv "),
 ]

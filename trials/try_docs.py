@@ -8,7 +8,7 @@ one shell, in a copy of the repository's example data, documents, scripts and pr
 them on the path. A block ```console has lines `$ command`, each with the lines that it must print; in a block without a name a
 command may be followed by two blanks, `# ` and the one line that it must print, or by a text that says what it does. `..`
 stands for anything. What is run for a command between backticks, behind the blocks of its page, is said by INLINE below, which
-must name each. With --kit the copy is a clone, and the commands of the kit are run too, but for the gate: `rt try`, and
+must name each. With --kit the copy is a clone, and the commands of the kit are run too, but for the gate: tools/unproved.py, and
 tools/build.py, which takes a minute if the kit has kept what it proves, and else up to an hour for each program. The script ends
 with status 1 if a command prints something else, if one whose text is not said ends with a status above 8, or if one is not named.
 """
@@ -33,8 +33,7 @@ DAY = "# stored day 100 tuples 1137 notices 341 total 16416"
 
 # what a command prints of which the page says only what it does
 PRINTS = {
-    "(cd crates/toll_office && rt try -- answers 100 < ../example_office/data/day.csv) | tail -n 1":
-        "..# answered day 100 tuples 1137 notices 341..",
+    "python3 tools/unproved.py toll_office ../unproved": "../unproved/toll_office: built in .. minutes, and NOT PROVED",
     "python3 tools/build.py": "..crates/toll_office/out/toll_office\nproved and built in .. minutes",
 }
 
@@ -47,7 +46,7 @@ BEGIN = {
 
 # what is run before a command that a page has only once, since its text says where the reader is by then
 BEFORE = {
-    "(cd crates/toll_office && rt try -- answers 100 < ../example_office/data/day.csv) | tail -n 1": 'cd "$OLD"',
+    "python3 tools/unproved.py toll_office ../unproved": 'cd "$OLD"',
     'export PATH="$PWD/crates/toll_office/out:$PATH"': 'cd "$OLD"',
 }
 
@@ -189,7 +188,7 @@ class Shell:
 
 
 def needs_kit(command):
-    return re.search(r"(^|[( ;&])rt |tools/build\.py|^\.ci/run", command) is not None
+    return re.search(r"(^|[( ;&])rt |tools/(build|unproved)\.py|^\.ci/run", command) is not None
 
 
 def passed_over(command, given):

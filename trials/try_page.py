@@ -8,8 +8,8 @@ Without `--serve` the page is served by a small stand-in in this script, which a
 Pictures are made of an empty office, of a day that is going on (also in the dark and on a narrow window), of ten kept days, of a
 database that cannot be read, and of a server that has stopped. The script ends with status 1 if the page does not show what the
 stand-in told, in the page as Chromium has built it.
-With `--serve` the executable serves an office in a new folder, into which six days of bench/day.c were posted. A seventh is posted
-over half a minute, and meanwhile pictures of the page are made, light and dark: `page_import.png` and `page_import_dark.png`.
+With `--serve` the executable serves an office in a new folder, into which six days of bench/day.c were posted. Two more are posted
+over 40 seconds each, and meanwhile pictures of the page are made, a light and a dark one: `page_import.png`, `page_import_dark.png`.
 With `--out docs/pictures` they are those of the documents. Without `--out` no picture is kept. Needs `chromium`
 (`apt-get install chromium`).
 """
@@ -36,6 +36,7 @@ PIECES = [("markup", "FRONT"), ("style", "STYLE"), ("markup", "BODY"), ("asking"
 LIMIT = 40_000
 WIDE, NARROW = (1100, 900), (420, 1250)
 SECONDS = 30
+WATCH = "for (const v of [95212, 592414, 3179216]) { const it = document.querySelector('input'); it.value = v; it.form.requestSubmit(); }"
 
 
 def page_of_the_program():
@@ -164,8 +165,8 @@ class Browser:
         os.close(self.told)
 
 
-def watched(program, url, path, size, dark, seconds):
-    """A picture of a page that was open for so many seconds by the clock."""
+def watched(program, url, path, size, dark, seconds, meanwhile):
+    """A picture of a page that was open for so many seconds by the clock, while something else is done."""
     with tempfile.TemporaryDirectory(ignore_cleanup_errors=True) as profile, contextlib.closing(Browser(program, profile)) as browser:
         target = browser.call("Target.createTarget", url="about:blank")["targetId"]
         session = browser.call("Target.attachToTarget", targetId=target, flatten=True)["sessionId"]
@@ -173,7 +174,10 @@ def watched(program, url, path, size, dark, seconds):
         scheme = {"name": "prefers-color-scheme", "value": "dark" if dark else "light"}
         browser.call("Emulation.setEmulatedMedia", session, features=[scheme])
         browser.call("Page.navigate", session, url=url)
-        time.sleep(seconds)
+        meanwhile.start()
+        time.sleep(2)
+        browser.call("Runtime.evaluate", session, expression=WATCH)
+        time.sleep(seconds - 2)
         path.write_bytes(base64.b64decode(browser.call("Page.captureScreenshot", session, format="png")["data"]))
     print(f"{path}: {path.stat().st_size} bytes")
 
@@ -212,26 +216,25 @@ def posted(port, day, text, seconds=0):
 
 
 def of_an_import(serve, program, out):
-    """Pictures of the page of a server while a day is posted to it."""
-    for dark in (False, True):
-        with tempfile.TemporaryDirectory() as folder:
-            day = compiled("day", folder)
-            made = lambda lines, seed: subprocess.run([day, str(lines), "20000", "1", "60", str(seed)], check=True,
-                                                      stdout=subprocess.PIPE).stdout
-            port = free_port()
-            server = subprocess.Popen([serve, str(port)], cwd=folder)
-            try:
-                time.sleep(1)
-                for number in range(101, 107):
-                    posted(port, number, made(250000 + 10000 * (number * 7 % 13), number))
-                last = threading.Thread(target=posted, args=(port, 107, made(600000, 107), SECONDS + 10))
-                last.start()
-                path = out / f"page_import{'_dark' if dark else ''}.png"
-                watched(program, f"http://127.0.0.1:{port}/", path, WIDE, dark, SECONDS)
+    """Pictures of the page of a server while days are posted to it."""
+    with tempfile.TemporaryDirectory() as folder:
+        day, port = compiled("day", folder), free_port()
+
+        def made(lines, seed):
+            return subprocess.run([day, str(lines), "40000", "1", "60", str(seed)], check=True, stdout=subprocess.PIPE).stdout
+
+        server = subprocess.Popen([serve, str(port)], cwd=folder)
+        try:
+            time.sleep(1)
+            for number in range(101, 107):
+                posted(port, number, made(1400000 + 20000 * (number * 7 % 13), number))
+            for number, name in ((107, "page_import.png"), (108, "page_import_dark.png")):
+                last = threading.Thread(target=posted, args=(port, number, made(1500000, number), SECONDS + 10))
+                watched(program, f"http://127.0.0.1:{port}/", out / name, WIDE, "dark" in name, SECONDS, last)
                 last.join()
-            finally:
-                server.kill()
-                server.wait()
+        finally:
+            server.kill()
+            server.wait()
 
 
 def expect(what, text, wanted):

@@ -29,6 +29,7 @@ import shutil
 import socket
 import sqlite3
 import statistics
+import struct
 import subprocess
 import sys
 import tempfile
@@ -131,14 +132,24 @@ class Server:
         return answer.status, answer.reason, text.decode()
 
     def end(self):
-        """Uses up the connections that are left, by requests that are none, and waits for the end."""
-        while self.left > 0:
-            with self.connect() as wire:
-                wire.sendall(b"\0")
-                wire.shutdown(socket.SHUT_WR)
-                all_of(wire)
+        """Uses up the sessions that are left, by requests that are none, and waits for the end. Connections without a whole head
+        took none."""
+        while self.child.poll() is None:
+            try:
+                with socket.create_connection(("127.0.0.1", self.port), timeout=5) as wire:
+                    wire.sendall(b"\0")
+                    wire.shutdown(socket.SHUT_WR)
+                    all_of(wire)
+            except OSError:
+                time.sleep(0.01)
         out, err = self.child.communicate(timeout=60)
         return self.child.returncode, out + err
+
+
+def reset(wire):
+    """Ends a connection by a reset."""
+    wire.setsockopt(socket.SOL_SOCKET, socket.SO_LINGER, struct.pack("ii", 1, 0))
+    wire.close()
 
 
 def all_of(wire):
@@ -171,7 +182,7 @@ FOREIGN = (403, "Forbidden", '{"error":"origin"}')
 
 def try_bodies(program, folder):
     """Refused requests whose bodies nobody reads, and a body that waits for `100 Continue`: each sees its status."""
-    server = Server(program, folder, 60)
+    server = Server(program, folder, 100)
     body = b"a" * REFUSED_BODY
     head = f"Content-Length: {len(body)}\r\n\r\n".encode()
     refused = [
@@ -197,9 +208,21 @@ def try_bodies(program, folder):
         sent = f"POST /days/100 HTTP/1.1\r\n{field}\r\nContent-Length: 0\r\n\r\n".encode()
         expect(f"a page's request with {field}", server.raw(sent), answer_bytes(*FOREIGN))
     expect("a day that a page posted", server.ask("GET", "/days/100")[0], 404)
+    seen = [first_sends(server, "DELETE", "/days/100", body) for _ in range(20)]
+    expect("who sends 5 MB and reads only then", seen, [405] * 20)
     expect("the end", server.end(), (0, b""))
     print(f"{len(refused) * 4} requests with a body that nobody reads: each saw its status; {curled} body of curl with Expect;"
-          " three requests as a page sends them: 403, nothing stored")
+          " three requests as a page sends them: 403, nothing stored; twenty that send all before they read saw theirs")
+
+
+def first_sends(server, method, path, body):
+    """The status of a request whose client sends all of its body before it reads."""
+    asked = http.client.HTTPConnection("127.0.0.1", server.port)
+    asked.sock = server.connect()
+    asked.request(method, path, body)
+    status = asked.getresponse().status
+    asked.close()
+    return status
 
 
 def push(wire, sent):
@@ -632,8 +655,8 @@ def try_handles(program, folder):
 
 
 def try_line(program, folder):
-    """One reader: ten POSTs wait behind one whose body is held back, beside clients that ask. Of two more in line the clients
-    vanish, one with its whole day sent: nothing of theirs is kept. Those that are refused at once do not wait,
+    """One reader: ten POSTs wait behind one whose body is held back, beside clients that ask. Two more in line are reset, one with
+    its whole day sent: nothing of theirs is kept. One that ends what it sends is served. Those that are refused at once do not wait,
     and those whose heads do not end are let go after their 10 seconds."""
     server = Server(program, folder, 3_000, readers=1)
     expect("the first day", server.ask("POST", "/days/100", b"")[0], 200)
@@ -643,10 +666,13 @@ def try_line(program, folder):
     line = [Posts(server, 99) for _ in range(10)]
     for post in line:
         post.start()
-    for whole in (b"POST /days/102 HTTP/1.1\r\nContent-Length: 0\r\n\r\n", b"POST /days/102 HTTP/1.1\r\nContent-Length: 9\r\n\r\n"):
+    for whole in (b"POST /days/103 HTTP/1.1\r\nContent-Length: 0\r\n\r\n", b"POST /days/103 HTTP/1.1\r\nContent-Length: 9\r\n\r\n"):
         each = server.connect()
         each.sendall(whole)
-        each.close()
+        reset(each)
+    ended = server.connect()
+    ended.sendall(b"POST /days/98 HTTP/1.1\r\nContent-Length: 0\r\n\r\n")
+    ended.shutdown(socket.SHUT_WR)
     begin = time.monotonic()
     expect("a POST to no path beside the line", server.ask("POST", "/nothing", b"")[0], 404)
     expect("a POST to a live path beside the line", server.ask("POST", "/live", b"")[0], 405)
@@ -671,9 +697,11 @@ def try_line(program, folder):
     if lasted > 0.5:
         fail(f"ten POSTs in line took {lasted:.2f} s after the one before them")
     expect("the POSTs in line", {post.answer for post in line}, {(409, "Conflict", '{"error":"passed","last":100}')})
-    expect("the day of those that vanished", server.ask("GET", "/days/102")[0], 404)
+    expect("the POST in line that has ended what it sends", all_of(ended), passed_by(100))
+    ended.close()
+    expect("the day of those that were reset", server.ask("GET", "/days/103")[0], 404)
     print(f"one reader, a POST that is held back and ten behind it: {answers} answers meanwhile, the slowest {most:.1f} ms;"
-          f" twenty whose heads do not end were let go within {let_go:.1f} s; the ten were answered within {lasted * 1000:.0f} ms after it; what two sent that vanished in line is not kept")
+          f" twenty whose heads do not end were let go within {let_go:.1f} s; the ten were answered within {lasted * 1000:.0f} ms after it; one whose client had ended what it sends was answered too, and what two sent that were reset is not kept")
     server.end()
 
 
@@ -688,7 +716,7 @@ def slow_post(server, day, begins):
 
 def try_passed(program, folder):
     """A passed day and a refused one whose bodies of some MB come slowly, and a client that does not take its answer: the next POST
-    does not wait for them. One more keeps all the acceptors that POSTs may keep: who asks is answered, and a further POST waits."""
+    does not wait for them. Two more keep all the acceptors that POSTs may keep: who asks is answered, and a further POST waits."""
     server = Server(program, folder, 3_000)
     expect("the first day", server.ask("POST", "/days/100", b"")[0], 200)
     slow = [slow_post(server, 99, b""), slow_post(server, 101, LATE)]
@@ -704,7 +732,7 @@ def try_passed(program, folder):
     expect("the next POST", (status, json.loads(text)["outcome"]), (200, "stored"))
     if took > AT_ONCE:
         fail(f"the next POST was answered after {took:.2f} s, while bodies came that are not used")
-    slow.append(slow_post(server, 97, b""))
+    slow += [slow_post(server, 97, b""), slow_post(server, 95, b"")]
     last = Posts(server, 96)
     last.start()
     answers, most = slowest(work(server, ["/live", "/days/102", "/spent/102/0/100"], 2))
@@ -714,13 +742,13 @@ def try_passed(program, folder):
     taken = [all_of(wire) for wire, _ in slow]
     last.join()
     refused = answer_bytes(422, "Unprocessable Entity", '{"cause":"late 10 9","error":"refused","line":3}')
-    expect("the slow ones", taken, [passed_by(100), refused, passed_by(102)])
+    expect("the slow ones", taken, [passed_by(100), refused, passed_by(102), passed_by(102)])
     expect("the one behind them", last.answer, (409, "Conflict", '{"error":"passed","last":102}'))
     for wire, _ in slow:
         wire.close()
     untaken.close()
     print(f"a passed and a refused day of {REFUSED_BODY / 1e6:.0f} MB that come slowly, and an answer that is not taken: the next POST was"
-          f" answered within {took * 1000:.0f} ms; with one slow day more {answers} answers to others, the slowest {most:.1f} ms, while a"
+          f" answered within {took * 1000:.0f} ms; with two slow days more {answers} answers to others, the slowest {most:.1f} ms, while a"
           " further POST waited; all were answered at the end")
     server.end()
 
@@ -788,6 +816,148 @@ def try_beside(program, folder, path):
     server.end()
 
 
+def live_beside(server, what):
+    """How long 99 of 100 live totals take at most beside something, in milliseconds; no more than 50."""
+    asker = Asker(server, "/live", 300)
+    asker.start()
+    asker.join()
+    expect(f"live totals beside {what}", asker.error, None)
+    most = percentile(asker.took)
+    if most > AT_MOST:
+        fail(f"beside {what} the 99th percentile of live totals is {most * 1000:.1f} ms")
+    return most * 1000
+
+
+def try_full(program, folder):
+    """A POST whose body is held back, and 1,024 clients that send `POST /days/9` and are silent; then 1,014 that send nothing, under
+    1,024 file handles: who asks is answered, also of what is kept."""
+    hard = resource.getrlimit(resource.RLIMIT_NOFILE)[1]
+    resource.setrlimit(resource.RLIMIT_NOFILE, (min(4096, hard), hard))
+    server = Server(program, folder, 5_000, handles=1024)
+    wire = server.connect(SILENCE * 3)
+    wire.sendall(b"POST /days/101 HTTP/1.1\r\nContent-Length: %d\r\n\r\n" % len(LATE) + LATE[:-1])
+    begun = [server.connect() for _ in range(1024)]
+    for each in begun:
+        each.sendall(b"POST /days/9")
+    posts = live_beside(server, "heads that do not end")
+    for each in begun:
+        each.close()
+    silent = [server.connect() for _ in range(1014)]
+    nothing = live_beside(server, "silent clients")
+    expect("a day beside silent clients", server.ask("GET", "/days/100"), (404, "Not Found", '{"error":"no day"}'))
+    for each in silent:
+        each.close()
+    wire.sendall(LATE[-1:])
+    expect("the POST that was held", all_of(wire).split(b"\r\n")[0], b"HTTP/1.1 422 Unprocessable Entity")
+    wire.close()
+    server.end()
+    print(f"1,024 clients of `POST /days/9` beside a POST that is held back: 99th percentile of live totals {posts:.1f} ms;"
+          f" 1,014 silent ones, with 1,024 file handles: {nothing:.1f} ms, and a day is looked for")
+
+
+def try_reads(program, folder, path):
+    """Three bodies of a passed day that come slowly, and six clients that ask for kept days and lists over and over, while a day is
+    read and stored: who asks for the live total waits for none of them. What is left of the slow bodies has 30 seconds in all."""
+    server = Server(program, folder, 2_000_000)
+    expect("the first day", server.ask("POST", "/days/100", charged_day())[0], 200)
+    slow = [slow_post(server, 99, b"") for _ in range(3)]
+    begin = time.monotonic()
+    stop = threading.Event()
+    tricklers = [threading.Thread(target=drip, args=(wire, stop), daemon=True) for wire, _ in slow]
+    answers = []
+    with open(path, "rb") as body:
+        posting = threading.Thread(target=post_quietly, args=(server, body.read(), answers))
+    readers = [Reader(server, "/days/100" if at % 2 else "/days", posting) for at in range(6)]
+    for each in tricklers + [posting] + readers:
+        each.start()
+    took = []
+    while posting.is_alive():
+        asked = time.monotonic()
+        expect("GET /live while a day is stored", server.ask("GET", "/live")[0], 200)
+        took.append(time.monotonic() - asked)
+        time.sleep(0.002)
+    posted = time.monotonic() - begin
+    for reader in readers:
+        reader.join()
+    expect("those who ask for what is kept", [reader.error for reader in readers if reader.error], [])
+    expect("the POST beside three slow bodies", answers, [200])
+    if percentile(took) > AT_MOST:
+        fail(f"while a day is stored the 99th percentile of live totals is {percentile(took) * 1000:.1f} ms")
+    expect("what nobody uses and comes slowly", [rest_of(wire) for wire, _ in slow], [b""] * 3)
+    let_go = time.monotonic() - begin
+    stop.set()
+    if not 25 < let_go < 45:
+        fail(f"bodies that nobody uses were let go after {let_go:.1f} s")
+    waited = max(reader.most for reader in readers)
+    print(f"three slow bodies of a passed day and six who ask for what is kept beside a POST of {posted:.1f} s: {len(took)} live totals,"
+          f" 99th percentile {percentile(took) * 1000:.1f} ms; those who ask waited {waited * 1000:.0f} ms at most; the bodies were let go after {let_go:.0f} s")
+    server.child.kill()
+    server.child.wait()
+
+
+def drip(wire, stop):
+    """Sends 4 KB a second until it is let go."""
+    try:
+        while not stop.is_set():
+            wire.sendall(b"a" * 4096)
+            time.sleep(1)
+    except OSError:
+        pass
+
+
+class Reader(threading.Thread):
+    """Asks for a path over and over while another thread goes on, and notes the longest answer."""
+
+    def __init__(self, server, path, other):
+        super().__init__()
+        self.server, self.path, self.other, self.most, self.error = server, path, other, 0.0, None
+
+    def run(self):
+        try:
+            while True:
+                begin = time.monotonic()
+                expect(f"GET {self.path} while a day is stored", self.server.ask("GET", self.path)[0], 200)
+                self.most = max(self.most, time.monotonic() - begin)
+                if not self.other.is_alive():
+                    return
+        except (OSError, SystemExit, http.client.HTTPException) as error:
+            self.error = repr(error)
+
+
+def try_checks(program, folder):
+    """Connections that send no whole head are no sessions."""
+    server = Server(program, folder, 3)
+    for sent in (b"", b"", b"GET", b"GET /live HTTP/1.1\r\n", b"\r\n"):
+        expect(f"a connection of {sent}", server.raw(sent), b"")
+    expect("the server behind checks of its port", server.child.poll(), None)
+    for _ in range(3):
+        expect("GET /live behind checks", server.ask("GET", "/live")[0], 200)
+    expect("the end", server.child.wait(timeout=30), 0)
+    print("five connections without a whole head are no sessions: the server ended behind three requests")
+
+
+def try_marks(program, folder):
+    """A day of 20,000 lines that comes over some seconds: its mark moves on each 4,096 tuples."""
+    server = Server(program, folder, 100_000)
+    lines = b"".join(report([(at // 500, at, 30, 0, 10, 52800)]) for at in range(20_000))
+    wire = server.connect(SILENCE * 3)
+    wire.sendall(b"POST /days/100 HTTP/1.1\r\nContent-Length: %d\r\n\r\n" % len(lines))
+    marks = set()
+    for at in range(0, len(lines), 20_000):
+        wire.sendall(lines[at:at + 20_000])
+        time.sleep(0.1)
+        marks.add(json.loads(server.ask("GET", "/live")[2])["as_of"])
+    expect("the POST that comes over some seconds", all_of(wire).split(b" ")[1], b"200")
+    wire.close()
+    between = sorted(mark for mark in marks if 0 < mark < 20_000)
+    expect("marks that are no rounds", [mark for mark in between if mark % 4096], [])
+    if len(between) < 4:
+        fail(f"the mark of a day that comes slowly was at {sorted(marks)} alone")
+    server.child.kill()
+    server.child.wait()
+    print(f"a day of 20,000 lines over some seconds: its mark was seen at {', '.join(map(str, between))}")
+
+
 def shim():
     """`trials/fail_accept.c` as a library, where there is a compiler."""
     return preloaded("fail_accept", tempfile.mkdtemp()) if shutil.which("cc") else None
@@ -848,7 +1018,7 @@ def try_drains(program, folder):
             gone += 1
         wire.close()
     expect("clients that stayed and were let go after two seconds", gone, len(held))
-    print(f"{len(held)} clients that are answered and stay: {answers} answers over two acceptors meanwhile, the slowest {most:.1f} ms;"
+    print(f"{len(held)} clients that are answered and stay: {answers} answers meanwhile, the slowest {most:.1f} ms;"
           " each was let go")
     server.end()
 
@@ -919,11 +1089,12 @@ def main():
     folder = tempfile.mkdtemp()
     try_words(program)
     try_answers(program, folder)
-    attempts = [try_bodies, try_stream, try_handles, try_threads, try_drains, try_passed]
-    for attempt in attempts if given.short else attempts + [try_ways, try_silent, try_faults, try_line]:
+    attempts = [try_bodies, try_stream, try_handles, try_threads, try_drains, try_passed, try_checks, try_marks]
+    for attempt in attempts if given.short else attempts + [try_ways, try_silent, try_faults, try_line, try_full]:
         in_a_folder(attempt, program)
     if not given.short:
         in_a_folder(try_beside, program, make_day(given.folder, str(given.beside)))
+        in_a_folder(try_reads, program, make_day(given.folder, str(given.beside)))
     path = make_day(given.folder, str(given.lines))
     try_kills(program, path, given.kills)
     server, day = try_day(program, folder, path)

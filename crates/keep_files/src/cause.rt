@@ -45,6 +45,10 @@ pub enum Cause {
     Shut,
     #[error("memory ran out")]
     Memory,
+    #[error("it was replaced, removed or cut short while it was open, or its log was, or it got a second name")]
+    Replaced,
+    #[error("it is empty or missing, but its log is not: put the file back, or move the log away")]
+    Emptied,
 }
 
 /// The cause that an error of the database is.
@@ -77,7 +81,7 @@ pub fn cause_of_opening(error: OpenError) -> Cause
 }
 
 /// The cause that a refusal of the file system is.
-fn cause_of_kind(kind: ErrorKind) -> Cause
+pub fn cause_of_kind(kind: ErrorKind) -> Cause
     ensures { result ≡ kind_cause kind }
 {
     match kind {

@@ -4,7 +4,7 @@ ghost use Rattle.sqlite_wal.specs.PageSize.{bytes_of};
 ghost use Rattle.sqlite_wal.specs.Reads.{AreClean, OnlyReadsBoth};
 ghost use Rattle.sqlite_pages.specs.Calls.{Continues};
 ghost use Rattle.sqlite_pool.specs.Opening.{AreUsable, image};
-ghost use Rattle.sqlite_pool.specs.Pool.{files as files_in, state};
+ghost use Rattle.sqlite_pool.specs.Pool.{Follows, HasSpilled, files as files_in, log_frames, state, usable};
 ghost use Rattle.sqlite_pool.specs.Stored.{Recovers};
 ghost use Rattle.sqlite_store.specs.Unopened.{AreUsable as MayOpen, files_of, state_of, wanted_by};
 ghost use Rattle.sqlite.specs.Files.{image_of};
@@ -101,11 +101,34 @@ fn recovered<D: Disk>(mut pool: Pool<D>) -> Result<Pool<D>, Pool<D>>
     }
 }
 
-/// The trees of files that are exactly ours. Other files are given back, and what they hold is as it was.
+/// Pages, once what their log has was copied into their file, if that is asked for. They are given back where that
+/// failed.
+fn folded<D: Disk>(mut pool: Pool<D>, folds: bool) -> Result<Pool<D>, Pool<D>>
+    ensures kept { MatchResult result (Follows pool) (Follows pool) }
+    ensures same { IfOk result (λ folded. IsTrue (state folded).is_clean → usable folded ≡ usable pool) }
+    ensures empty { IfOk result (λ folded. IsTrue folds → ¬ HasSpilled pool → log_frames folded ≡ 0) }
+{
+    if !folds {
+        return Ok(pool);
+    }
+    match pool.checkpoint() {
+        Ok(()) => {
+            if pool.is_open() {
+                return Ok(pool);
+            }
+            Err(pool)
+        }
+        Err(_) => Err(pool),
+    }
+}
+
+/// The trees of files that are exactly ours, once what their log has was copied into their file, if that is asked for.
+/// Other files are given back, and what they hold is as it was.
 pub fn trees_of<D: Disk + Drop>(
     alloc: Global,
     mut files: Files<D>,
     seed: u64,
+    folds: bool,
 ) -> Result<PageTrees<Pool<D>>, Files<D>>
     requires log { IsTrue (D.Disk.is_usable files.log) }
     requires db { IsTrue (D.Disk.is_usable files.db) }
@@ -121,6 +144,10 @@ pub fn trees_of<D: Disk + Drop>(
         Err(files) => return Err(files),
     };
     let pool = match recovered(pool) {
+        Ok(pool) => pool,
+        Err(pool) => return Err(pool.close()),
+    };
+    let pool = match folded(pool, folds) {
         Ok(pool) => pool,
         Err(pool) => return Err(pool.close()),
     };
@@ -186,7 +213,7 @@ pub fn open_whole<D: AtPath>(
     ensures refused { IfErr result
         (RefusesPath D.Disk D.AtPath.reaches D.AtPath.refuses D.AtPath.undrawn path.now) }
 {
-    match D::open(rt, path) {
+    match D::open(rt, path, 0) {
         Ok(files) => opened_whole(rt, files),
         Err(cause) => Err(cause),
     }
@@ -264,7 +291,8 @@ pub fn stored<D: AtPath>(
     }
 }
 
-/// The trees of files that a store gave back, if they are exactly ours. Else the files are let go.
+/// The trees of files that a store gave back, if they are exactly ours, once what their log has was copied into their
+/// file. Else the files are let go.
 pub fn listed_again<D: AtPath>(rt: &HostRuntime, files: Files<D>) -> Option<PageTrees<Pool<D>>>
     ensures found { IfSome result (AreFound ⟦<Pool<D> as Pages>⟧) }
     ensures opened { IfSome result (λ trees. OfClosed D.Disk files (AsTrees trees)) }
@@ -275,16 +303,18 @@ pub fn listed_again<D: AtPath>(rt: &HostRuntime, files: Files<D>) -> Option<Page
     let Ok(seed) = D::draw(rt) else {
         return None;
     };
-    match trees_of(rt.alloc(), files, seed) {
+    match trees_of(rt.alloc(), files, seed, true) {
         Ok(trees) => Some(trees),
         Err(_) => None,
     }
 }
 
-/// The trees of the file at a path where it is exactly ours, or else the file whole.
+/// The trees of the file at a path where it is exactly ours, or else the file whole. Where another has it open, it waits
+/// that number of seconds at most.
 pub fn open_to_read<D: AtPath>(
     rt: &HostRuntime,
     path: &str,
+    wait: u32,
 ) -> Result<Kept<PageTrees<Pool<D>>, Connection<FileStore<D>>>, Cause>
     ensures found { IfOk result (FindsTrees ⟦<Pool<D> as Pages>⟧) }
     ensures opened { IfOk result (λ kept. FileGives D.Disk D.AtPath.reaches (FromPath path.now) (read_part kept)) }
@@ -295,11 +325,11 @@ pub fn open_to_read<D: AtPath>(
         Ok(seed) => seed,
         Err(cause) => return Err(cause),
     };
-    let files = match D::open(rt, path) {
+    let files = match D::open(rt, path, wait) {
         Ok(files) => files,
         Err(cause) => return Err(cause),
     };
-    let files = match trees_of(rt.alloc(), files, seed) {
+    let files = match trees_of(rt.alloc(), files, seed, false) {
         Ok(trees) => return Ok(Kept::Trees(trees)),
         Err(files) => files,
     };

@@ -11,6 +11,14 @@ use road_time::Limits;
 use serve_top::{ServerEnd, TcpDoor, serve_in_threads};
 use std::process::ExitCode;
 
+/// The greatest limits of a day, but that its tuples are settled, and shown on the live board, 4,096 at a time.
+const LIMITS: Limits = Limits {
+    lines: Limits::DAY.lines,
+    vehicles: Limits::DAY.vehicles,
+    backlog: 4_096,
+    past: Limits::DAY.past,
+};
+
 fn main(rt: HostRuntime) -> ExitCode {
     let Ok(words) = words_of(&rt) else {
         return ExitCode::from(ServerEnd::NoMemory.status());
@@ -23,7 +31,7 @@ fn main(rt: HostRuntime) -> ExitCode {
         rt,
         rt.alloc(),
         words.as_slice(),
-        &Limits::DAY,
+        &LIMITS,
         &mut door,
         keeper,
     );
