@@ -363,7 +363,7 @@ def room():
     """Where a connection to the server waits, and for what."""
     seats = re.search(r"const SEATS: usize = (\d+)", (TOP / "crates/serve_room/src/hearing.rt").read_text())
     p = Picture(960, 440, "Who waits for whom in the server")
-    p.text(20, 30, "Who waits for whom in toll_serve, with four readers", "text", 14, bold=True)
+    p.text(20, 30, "Who waits for whom in toll_serve, with six readers", "text", 14, bold=True)
     p.box(150, 60, 220, 330, "gold-box", "gold", 10)
     p.text(170, 86, "the waiting room", "text", 14, bold=True)
     for i, said in enumerate([f"{seats[1]} seats, no thread of its own", "each has 10 s for its head"]):
@@ -371,34 +371,36 @@ def room():
     for i in range(3):
         for j in range(8):
             p.box(170 + j * 23, 142 + i * 26, 16, 16, "page", "gold", 3)
-    p.text(170, 244, "A head is whole: all but POSTs", "text", 12)
-    p.text(170, 260, "of days leave at once.", "text", 12)
+    p.text(170, 244, "With a whole head it goes to", "text", 12)
+    p.text(170, 260, "a reader that is free.", "text", 12)
     p.card(170, 282, 90, 34, ["the pass"], "green-box", "green")
     p.text(170, 340, "There is one. A POST of a day", "text", 12)
     p.text(170, 356, "takes it along; the others wait", "text", 12)
     p.text(170, 372, "here, and keep no reader busy.", "text", 12)
     p.text(20, 190, "connections", "text", 13, bold=True)
     p.line(30, 206, 146, 206, "line", 2, arrow=True)
-    p.text(20, 232, "more than the seats:", "soft", 12)
-    p.text(20, 248, "they wait outside", "soft", 12)
-    for i, (said, what) in enumerate([("reader 1", "GET /live"), ("reader 2", "POST, with the pass"), ("reader 3", "POST: its answer"),
-                                      ("reader 4", "GET /days/100")]):
-        y = 66 + i * 82
-        p.card(440, y, 170, 56, [said, what], "green-box" if i == 1 else "blue-box", "green" if i == 1 else "blue")
-        p.line(372, y + 28, 436, y + 28, "line", 1.5, arrow=True)
-    p.text(440, 408, "At most three of the four have POSTs at once.", "soft", 12)
+    p.text(20, 232, "no seat is free:", "soft", 12)
+    p.text(20, 248, "the oldest without", "soft", 12)
+    p.text(20, 264, "a head gives its own", "soft", 12)
+    for i, what in enumerate(["GET /live, the page", "POST, with the pass", "POST: its answer", "POST: its answer", "GET of a day",
+                              "GET of a vehicle"]):
+        y, is_post = 58 + i * 56, what.startswith("POST, ")
+        p.card(440, y, 170, 44, [f"reader {i + 1}", what], "green-box" if is_post else "blue-box", "green" if is_post else "blue", 12)
+        p.line(372, y + 22, 436, y + 22, "line", 1.5, arrow=True)
+    p.text(150, 424, "Of six readers at most four have POSTs, and at most four read what is kept; one at least does neither.", "soft", 12)
     p.card(700, 60, 230, 60, ["the live board", "its readers never wait"], "blue-box", "blue")
     p.card(700, 150, 230, 70, ["the imports' lock", "from the pass to its return:", "one day at a time"], "green-box", "green")
     p.card(700, 250, 230, 70, ["the database's lock", "for one call at a time;", "longest while a day is stored"], "violet-box", "violet")
     p.card(700, 350, 230, 46, ["tolls.db"], "gold-box", "gold")
-    p.line(612, 94, 696, 90, "line", 1.5, arrow=True)
-    p.line(612, 170, 696, 182, "line", 1.5, arrow=True)
-    p.line(612, 346, 696, 300, "line", 1.5, arrow=True)
+    p.line(612, 80, 696, 86, "line", 1.5, arrow=True)
+    p.line(612, 140, 696, 176, "line", 1.5, arrow=True)
+    p.line(612, 300, 696, 288, "line", 1.5, arrow=True)
+    p.line(612, 356, 696, 306, "line", 1.5, arrow=True)
     p.line(815, 222, 815, 247, "line", 1.5, arrow=True)
     p.line(815, 322, 815, 347, "line", 1.5, arrow=True)
     p.line(745, 148, 745, 123, "green", 1.5, arrow=True)
     p.text(753, 140, "publishes", "soft", 12)
-    p.path([(526, 206), (526, 217), (400, 217), (400, 299), (270, 299)], "green", 1.5, "5 4")
+    p.path([(526, 158), (526, 164), (400, 164), (400, 299), (270, 299)], "green", 1.5, "5 4")
     p.line(290, 299, 264, 299, "green", 1.5, arrow=True)
     return p
 

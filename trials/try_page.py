@@ -6,7 +6,7 @@
 Without `--serve` the page is served by a small stand-in in this script, which answers `/`, `/live`, `/live/{vid}` and
 `/days` as the server does, with invented numbers; the page is taken from the constants of `crates/serve_requests/src/page`.
 Pictures are made of an empty office, of a day that is going on (also in the dark and on a narrow window), of ten kept days, of a
-database that cannot be read, and of a server that has stopped. The script ends with status 1 if the page does not show what the
+day that stands still, of odd answers, of a database that cannot be read, and of a server that has stopped. The script ends with status 1 if the page does not show what the
 stand-in told, in the page as Chromium has built it.
 With `--serve` the executable serves an office in a new folder, into which six days of bench/day.c were posted. Two more are posted
 over 40 seconds each, and meanwhile pictures of the page are made, a light and a dark one: `page_import.png`, `page_import_dark.png`.
@@ -51,6 +51,10 @@ def page_of_the_program():
     return text.encode()
 
 
+# answers that are none of the live board's: want of memory, no JSON, an empty page, other members, a list
+ODD = [(500, {"error": "memory"}), (200, b"<html>"), (200, b""), (200, {"as_of": "x"}), (200, b"null"), (200, [1])]
+
+
 class Office:
     """What the stand-in tells."""
 
@@ -65,11 +69,18 @@ class Office:
             return {"as_of": 0, "day": 0, "total": 0}
         if self.state in ("going", "lost"):
             return {"as_of": 2400 * self.asked, "day": 111, "total": int(180 * self.asked ** 1.4)}
-        return {"as_of": 1203456, "day": 110, "total": 9876543210}
+        return {"as_of": 1203456, "day": 120 if self.state == "still" else 110, "total": 9876543210}
 
     def is_lost(self):
         """Whether nothing is answered any more."""
         return self.state == "lost" and self.asked >= 10
+
+    def is_odd(self):
+        """Whether the live board is answered by something else, as it is at first."""
+        if self.state != "odd" or self.asked >= 2 * len(ODD):
+            return False
+        self.asked += 1
+        return True
 
     def account(self, vid):
         self.asked -= 1
@@ -95,6 +106,8 @@ def handler_of(office, page):
                 self.close_connection = True
             elif office.state == "broken" and path == "/days":
                 self.answer(503, {"error": "keeper"})
+            elif office.is_odd() and path == "/live":
+                self.answer(*ODD[office.asked % len(ODD)])
             elif path == "/live":
                 self.answer(200, office.live())
             elif path.startswith("/live/"):
@@ -260,8 +273,9 @@ def main():
     if len(page) >= LIMIT or not page.isascii():
         sys.exit(f"the page has {len(page)} bytes, or others than ASCII")
     print(f"the page has {len(page)} bytes")
-    states = [("empty", ["No day has been imported", "None is kept."]), ("going", ["<dd id=\"day\">111</dd>"]),
-              ("kept", ["1 203 456", "9 876 543 210", "<td>105</td>"]),
+    states = [("empty", ["No day has been imported", "None is kept."]), ("going", ["<dd id=\"day\">111</dd>", "Day 111 is going on"]),
+              ("kept", ["1 203 456", "9 876 543 210", "<td>105</td>", "Day 110 is kept."]),
+              ("still", ["Day 120 has stood still since", "Do not bill by it."]), ("odd", ["1 203 456", "Day 110 is kept."]),
               ("broken", ["cannot read its database"]), ("lost", ["The server does not answer.", "<td>105</td>"])]
     for state, wanted in states:
         office = Office(state)

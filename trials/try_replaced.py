@@ -5,7 +5,7 @@
 
 SERVER is the executable toll_serve, OFFICE toll_office. Each harm is done to a folder of its own, in which a server keeps
 the days 100 and 101: the file is replaced by a copy in its place or beside it, with its log left or removed; its log is
-removed, or both; it is cut to nothing, or cut short; it gets a second name; its folder gets another one. Then days are
+removed, or both; it is cut to nothing, or to a page; it gets a second name; its folder gets another one. Then days are
 posted until two in turn are answered as stored, at most six. The first call behind a harm that leaves another file, or
 none, has to fail; whatever was stored behind the harm has to be found by the office once the server was killed, and by
 Python's sqlite3. Where both files are gone a second server takes the folder: of the two at most one stores. Then files
@@ -86,7 +86,7 @@ def cut_to_nothing(folder):
     os.truncate(folder / KEPT, 0)
 
 
-def cut_short(folder):
+def cut_to_a_page(folder):
     os.truncate(folder / KEPT, 4096)
 
 
@@ -112,7 +112,7 @@ HARMS = {
     file_removed: True,
     both_removed: True,
     cut_to_nothing: True,
-    cut_short: None,
+    cut_to_a_page: None,
     second_name: True,
     second_name_and_gone: False,
     folder_renamed: None,

@@ -204,15 +204,24 @@ def try_bodies(program, folder):
         lines = LATE + b"\n" * 1_500_000
         expect("curl with Expect", server.curl("POST", "/days/100", lines)[0], 422)
         curled = 1
-    for field in ("Host: desk.example", "Origin: null", "Host: localhost\r\nOrigin: http://localhost"):
+    for field in ("Host: desk.example", "Origin: null", "Host: localhost\r\nOrigin: http://localhost",
+                  "Host: localhost\r\nHost: desk.example", "Host: desk.example\r\nHost: localhost",
+                  "Sec-Fetch-Site: cross-site", "Sec-Fetch-Site: same-site"):
         sent = f"POST /days/100 HTTP/1.1\r\n{field}\r\nContent-Length: 0\r\n\r\n".encode()
         expect(f"a page's request with {field}", server.raw(sent), answer_bytes(*FOREIGN))
     expect("a day that a page posted", server.ask("GET", "/days/100")[0], 404)
+    for site, status in (("cross-site", b"403"), ("same-site", b"403"), ("none", b"200"), ("same-origin", b"200")):
+        for path in ("/", "/days", "/live"):
+            sent = f"GET {path} HTTP/1.1\r\nHost: 127.0.0.1\r\nSec-Fetch-Site: {site}\r\n\r\n".encode()
+            expect(f"GET {path} of a page, {site}", server.raw(sent).split(b" ")[1], status)
+    head = server.raw(b"GET / HTTP/1.1\r\n\r\n").split(b"\r\n\r\n")[0].split(b"\r\n")
+    for field in (b"X-Frame-Options: DENY", b"X-Content-Type-Options: nosniff", b"Cache-Control: no-store"):
+        expect(f"the page's {field}", field in head, True)
     seen = [first_sends(server, "DELETE", "/days/100", body) for _ in range(20)]
     expect("who sends 5 MB and reads only then", seen, [405] * 20)
     expect("the end", server.end(), (0, b""))
     print(f"{len(refused) * 4} requests with a body that nobody reads: each saw its status; {curled} body of curl with Expect;"
-          " three requests as a page sends them: 403, nothing stored; twenty that send all before they read saw theirs")
+          " seven requests as a page sends them: 403, nothing stored; twenty that send all before they read saw theirs")
 
 
 def first_sends(server, method, path, body):

@@ -1,5 +1,5 @@
 -- Where the files of a database lie, and whether what is held of them still lies there.
-use Rattle.std.specs.Prelude.{◌≡◌, ◌⊎◌, ◌&&◌, ◌==◌, nat_le, Bool, Option, Some, None, Result, Ok, Err, IsSome, IfSome}
+use Rattle.std.specs.Prelude.{◌≡◌, ◌⊎◌, ◌&&◌, ◌==◌, nat_lt, Bool, Option, Some, None, Result, Ok, Err, IsSome, IfSome}
 use Rattle.keep_office.specs.declared.kept.KeepFault.{KeepFault}
 use Rattle.keep_files.specs.declared.cause.Cause.{Cause}
 use Rattle.keep_files.specs.declared.cause.Cause.TheVariants.{Replaced}
@@ -7,11 +7,11 @@ use Rattle.keep_files.specs.declared.place.Place.{Place}
 use Rattle.keep_files.specs.declared.place.Places.{Places}
 use Rattle.keep_files.specs.Openings.{WasUnopened}
 
--- a path names what is held, under as many names, and it is no shorter than it was
+-- a path names what is held, under as many names, and it is not empty
 abbrev pub is_held : Place → Place → Bool
 is_held held named =
     (held.device == named.device)
-    && ((held.number == named.number) && ((held.names == named.names) && nat_le held.bytes named.bytes))
+    && ((held.number == named.number) && ((held.names == named.names) && nat_lt 0 named.bytes))
 
 -- the files that are held are where they lay
 abbrev pub AreThere : (Places → Type 0) → Option Places → Type 0

@@ -45,7 +45,7 @@ pub enum Cause {
     Shut,
     #[error("memory ran out")]
     Memory,
-    #[error("it was replaced, removed or cut short while it was open, or its log was, or it got a second name")]
+    #[error("it was replaced, removed or emptied while it was open, or its log was, or it got a second name")]
     Replaced,
     #[error("it is empty or missing, but its log is not: put the file back, or move the log away")]
     Emptied,

@@ -65,14 +65,15 @@ fn cause_of_look(kind: ErrorKind) -> Cause
     }
 }
 
-/// Whether the file that a path names is the one that is held, under as many names, and no shorter than it was.
+/// Whether the file that a path names is the one that is held, under as many names, and not empty. A put may cut what
+/// lay behind the last page, but never all.
 fn is_held(held: &Place, named: &Place) -> bool
     ensures { result ≡ is_held held.now named.now }
 {
     held.device == named.device
         && held.number == named.number
         && held.names == named.names
-        && held.bytes <= named.bytes
+        && named.bytes > 0
 }
 
 /// The path of the log of the database at a path, which the database's file puts beside the file that a link leads to.
@@ -141,15 +142,12 @@ pub fn look_at(rt: &HostRuntime, path: &str, places: &Places) -> Result<(), Caus
     }
 }
 
-/// Nothing, where two places are of one file under as many names. A log grows shorter as it is copied.
+/// Nothing, where two places are of one file under as many names. A log may be empty.
 fn same_file(held: &Place, named: &Place) -> Result<(), Cause>
     ensures { IfErr result IsOfLook }
 {
-    let grown = Place {
-        bytes: held.bytes,
-        ..*named
-    };
-    if is_held(held, &grown) {
+    let filled = Place { bytes: 1, ..*named };
+    if is_held(held, &filled) {
         return Ok(());
     }
     Err(Cause::Replaced)

@@ -10,3 +10,4 @@ pub mod AboutLaws
 pub mod GatherLaws
 pub mod GroupLaws
 pub mod SumParts
+pub mod PaymentLaws

@@ -10,3 +10,4 @@ pub mod Halts
 pub mod Groups
 pub mod RowParts
 pub mod Gathered
+pub mod Payments

@@ -1,7 +1,6 @@
 // The whole output of a day.
 ghost use Rattle.std.specs.Prelude.{◌≡◌, ◌≤◌, ◌<◌, ◌^◌, ◌+◌, ◌-◌, ◌++◌, ◌∷◌, [], IfOk, OnOk, ℕ, List, nat_eq, map};
 ghost use Rattle.std.specs.HashMap.{get};
-ghost use Rattle.std.specs.List.{find};
 ghost use Rattle.road_time.specs.declared.road.Tuple.{Tuple as TupleValue};
 ghost use Rattle.road_time.specs.declared.road.Tuple.TheVariants.{Report as ReportTuple};
 ghost use Rattle.road_time.specs.Tuples.{reports};
@@ -12,13 +11,15 @@ ghost use Rattle.road_time.specs.Day.{notices as defined_notices, charges as def
 ghost use Rattle.road_time.specs.Sights.{moments};
 ghost use Rattle.road_rules.specs.Findings.{shown_told, finding_if, KnowsSpots};
 ghost use Rattle.road_rules.specs.Accounts.{shown_charge, notices_told, owed_kept, toll_kept};
-ghost use Rattle.road_time.specs.History.{is_row, paid as defined_paid, KeysDiffer};
+ghost use Rattle.road_time.specs.History.{paid as defined_paid, KeysDiffer};
+ghost use Rattle.road_rules.specs.Payments.{amount_in};
 ghost use Rattle.road_rules.specs.Gathered.{IsGathered};
 ghost use Rattle.road_rules.specs.Outputs.{IsOutput, StandsAfter};
 
 use crate::account::{Account, StayCharge, add_charge, after, newest, owed};
 use crate::found::{SpotFound, found_for};
 use crate::owed::begins;
+use crate::payments::Payments;
 use crate::spots::{Gathered, Spot, gather};
 use road_time::{NoMemory, Notice, Report, SpentRow, Tariffs, Tuple};
 use std::alloc::Global;
@@ -80,30 +81,6 @@ fn add_told(notices: &mut Vec<Notice>, r: &Report, told: Option<SpotFound>) -> R
     Ok(())
 }
 
-/// The row of a vehicle on an expressway on a day.
-fn row_of(history: &[SpentRow], day: u32, vid: u32, xway: u8) -> Option<SpentRow>
-    ensures { result ≡ find (is_row day vid xway) history.now }
-{
-    let mut left = history;
-    while let Some((row, rest)) = left.split_first() {
-        if row.day == day && (row.vid == vid && row.xway == xway) {
-            return Some(*row);
-        }
-        left = rest;
-    }
-    None
-}
-
-/// What a vehicle paid on an expressway on a day.
-fn paid(history: &[SpentRow], day: u32, vid: u32, xway: u8) -> u64
-    ensures { result ≡ defined_paid history.now day vid xway }
-{
-    match row_of(history, day, vid, xway) {
-        None => 0,
-        Some(row) => row.tolls,
-    }
-}
-
 /// Takes a report: its notices, and its vehicle's account after it.
 fn take_report(
     alloc: Global,
@@ -136,7 +113,7 @@ fn take_tuple(
     gathered: &Gathered,
     tariffs: &Tariffs,
     day: u32,
-    history: &[SpentRow],
+    payments: &Payments,
     output: &mut Output,
     tuple: &Tuple,
 ) -> Result<(), NoMemory>
@@ -144,10 +121,10 @@ fn take_tuple(
     requires right { IsGathered gathered.now }
     requires late { 70 ≤ day }
     requires valid { IsValid tuple.now }
-    requires stands { StandsAfter gathered.now.tuples.now tariffs.now day (defined_paid history.now) output.old }
+    requires stands { StandsAfter gathered.now.tuples.now tariffs.now day (amount_in payments.now) output.old }
     ensures { OnOk result ((before : List TupleValue)
-        → IsOutput gathered.now.tuples.now tariffs.now day (defined_paid history.now) output.old before
-        → IsOutput gathered.now.tuples.now tariffs.now day (defined_paid history.now) output.new
+        → IsOutput gathered.now.tuples.now tariffs.now day (amount_in payments.now) output.old before
+        → IsOutput gathered.now.tuples.now tariffs.now day (amount_in payments.now) output.new
         (before ++ tuple.now ∷ [])) }
 {
     match tuple {
@@ -169,7 +146,7 @@ fn take_tuple(
             qid,
             day: ago,
         } => {
-            let amount = paid(history, day - u32::from(*ago), *vid, *xway);
+            let amount = payments.paid(day - u32::from(*ago), *vid, *xway);
             output.notices.push(Notice::Spent {
                 time: *time,
                 qid: *qid,
@@ -193,6 +170,7 @@ fn outputs(
     requires late { 70 ≤ day }
     ensures { IfOk result (λ o. IsOutput tuples.now tariffs.now day (defined_paid history.now) o tuples.now) }
 {
+    let payments = Payments::of(alloc, history)?;
     let gathered = gather(alloc, tuples)?;
     let mut output = Output {
         accounts: HashMap::new(alloc),
@@ -201,7 +179,15 @@ fn outputs(
         notices: Vec::new(alloc),
     };
     for tuple in gathered.tuples {
-        take_tuple(alloc, &gathered, tariffs, day, history, &mut output, tuple)?;
+        take_tuple(
+            alloc,
+            &gathered,
+            tariffs,
+            day,
+            &payments,
+            &mut output,
+            tuple,
+        )?;
     }
     Ok(output)
 }

@@ -7,7 +7,7 @@ use Rattle.road_time.proofs.AccountLaws.{charges_push}
 use Rattle.road_time.specs.declared.road.Notice.TheVariants.{Balance as BalanceNotice, Spent as SpentNotice}
 use Rattle.road_time.specs.declared.road.Tuple.TheVariants.{Balance, Spent, Travel}
 use Rattle.road_rules.specs.Accounts.{owed_kept}
-use Rattle.road_time.specs.History.{paid}
+use Rattle.road_rules.specs.Payments.{amount_in}
 use Rattle.road_rules.specs.Outputs.{IsOutput}
 use Rattle.road_rules.proofs.OutputLaws.{notices_push, accounts_other, accounts_small}
 use Rattle.road_rules.proofs.output.take_tuple.Goals as goal
@@ -21,7 +21,7 @@ pub returns-in_ok-push-in-Balance : goal.returns-in_ok-push-in-Balance
 returns-in_ok-push-in-Balance c = λ before st.
     let day = c.args.gathered.now.tuples.now in
     let finding = rules_of day c.args.tariffs.now in
-    let kept = paid c.args.history.now in
+    let kept = amount_in c.args.payments.now in
     let x = Balance c.in-Balance.time c.in-Balance.vid c.in-Balance.qid in
     let last : c.copied.result ≡ get nat_eq c.args.output.now.accounts c.in-Balance.vid = search rules in
     let amount : c.owed-amount.result ≡ balance_by finding c.in-Balance.vid before = c.owed-amount.ensures
@@ -52,7 +52,7 @@ pub returns-in_ok-push-in-Spent : goal.returns-in_ok-push-in-Spent
 returns-in_ok-push-in-Spent c = λ before st.
     let day = c.args.gathered.now.tuples.now in
     let finding = rules_of day c.args.tariffs.now in
-    let kept = paid c.args.history.now in
+    let kept = amount_in c.args.payments.now in
     let x = Spent c.in-Spent.time c.in-Spent.vid c.in-Spent.xway c.in-Spent.qid c.in-Spent.ago in
     let amount : c.paid-amount.result ≡ kept (c.args.day - c.in-Spent.ago) c.in-Spent.vid c.in-Spent.xway =
     search rules in
@@ -81,7 +81,7 @@ pub returns-in-Travel : goal.returns-in-Travel
 returns-in-Travel c = λ before st.
     let day = c.args.gathered.now.tuples.now in
     let finding = rules_of day c.args.tariffs.now in
-    let kept = paid c.args.history.now in
+    let kept = amount_in c.args.payments.now in
     let x = Travel c.in-Travel.time in
     let is : IsOutput day c.args.tariffs.now c.args.day kept c.args.output.now (before ++ x ∷ []) = record {
       known = st.known;
