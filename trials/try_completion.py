@@ -15,7 +15,8 @@ import sys
 import tempfile
 import time
 
-TOP = pathlib.Path(__file__).resolve().parent.parent
+from office import TOP
+
 OFFER, SHOW, CLEAR = "\x1b*", "\x14", "\x15"
 ROWS = [
     ("toll_office va", "toll_office validate "),
