@@ -22,7 +22,9 @@ import time
 from write_docs import TOP, crates
 
 NO_COPY = shutil.ignore_patterns("out", "must-fail")
-A_CHECK = 4 << 30
+A_CHECK = 4.0
+# the most memory that a group of processes may have, by the two ways in which Linux says it
+LIMITS = ("/sys/fs/cgroup/memory.max", "/sys/fs/cgroup/memory/memory.limit_in_bytes")
 
 
 def stand_on(names):
@@ -36,10 +38,14 @@ def stand_on(names):
     return found
 
 
-def at_a_time():
-    """How many crates are proved at a time."""
-    free = re.search(r"^MemAvailable:\s+(\d+) kB", pathlib.Path("/proc/meminfo").read_text(), re.M)
-    return max(1, min(len(os.sched_getaffinity(0)), int(free[1]) * 1024 // A_CHECK))
+def at_a_time(gigabytes):
+    """How many crates are proved at a time, if each takes so much memory."""
+    told = re.search(r"^MemAvailable:\s+(\d+) kB", pathlib.Path("/proc/meminfo").read_text(), re.M)
+    free = int(told[1]) * 1024
+    for limit in map(pathlib.Path, LIMITS):
+        if limit.is_file() and limit.read_text().strip().isdigit():
+            free = min(free, int(limit.read_text()))
+    return max(1, min(len(os.sched_getaffinity(0)), int(free / (1 << 30) // gigabytes)))
 
 
 def copy(names, to):
@@ -71,7 +77,7 @@ def main():
     with tempfile.TemporaryDirectory(prefix="ductchervil-") as folder:
         made = pathlib.Path(folder)
         copy(stand_on(names), made)
-        env = {**os.environ, "RT_JOBS": os.environ.get("RT_JOBS") or str(at_a_time())}
+        env = {**os.environ, "RT_JOBS": os.environ.get("RT_JOBS") or str(at_a_time(A_CHECK))}
         ran = subprocess.run(["rt", "ci"], cwd=made, env=env)
         if ran.returncode:
             sys.exit(ran.returncode)

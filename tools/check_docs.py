@@ -1,15 +1,15 @@
 #!/usr/bin/env python3
-"""Checks the documents: what scripts write is up to date, words are those of the grammar, rows and links are where they say.
+"""Checks the documents: their links and paths, the lengths of their lines, and the code and tables that they show.
 
     python3 tools/check_docs.py
 
 Looked at are README, CHANGELOG and docs. A link must lead to a file of the repository. A path in backticks that begins with
-`crates/`, `docs/` or one of the rooms (`bench/`, `tools/`, `trials/`, `examples/`, `scripts/`) must be there. The code that PROOF shows must stand in the file that it names, and the tables of
-FORMATS in the definitions. No line but of a table, a picture or a block is longer than 128 characters, and README has 120 lines
-at most. The script ends with status 1 if anything is wrong. It proves nothing and runs no program; trials/try_docs.py does.
+`crates/`, `docs/` or one of the rooms (`bench/`, `tools/`, `trials/`, `examples/`, `scripts/`) must be there. The code that
+README and PROOF show must stand in the file that they name, and the tables and words of FORMATS in the definitions. No line but
+of a table, a picture or a block is longer than 128 characters. The script ends with status 1 if anything is wrong. It proves
+nothing and runs no program; trials/try_docs.py does. `.ci/run --documents` runs the other checks too.
 """
 import re
-import subprocess
 import sys
 
 from edits import edits_of
@@ -18,14 +18,11 @@ from write_docs import PAGES, TOP
 sys.path.append(str(TOP / "trials"))
 from office import tables  # noqa: E402
 
-OTHERS = [["write_docs.py", "--check"], ["pictures.py", "--check"], ["check_words.py"], ["check_rows.py"],
-          ["check_traffic.py"], ["check_clauses.py"], ["check_heads.py"]]
 
-
-def shown():
-    """Lines of code in PROOF that are not in the file named before them, or, where they are new, in no edit of its crate."""
+def shown(page):
+    """Lines of code in a page that are not in the file named before them, or, where they are new, in no edit of its crate."""
     wrong, path, code = [], None, False
-    for at, line in enumerate((TOP / "docs/PROOF.md").read_text().splitlines(), 1):
+    for at, line in enumerate((TOP / page).read_text().splitlines(), 1):
         if line.startswith("```"):
             code = line == "```text"
         elif not code:
@@ -33,9 +30,9 @@ def shown():
             path = named[-1] if named else path
         elif line.startswith("+"):
             if not any(line[1:] in pair.new for it in edits_of(path.parent.parent.name) for pair in it.pairs):
-                wrong.append(f"docs/PROOF.md:{at}: no edit has {line}")
+                wrong.append(f"{page}:{at}: no edit has {line}")
         elif line.lstrip("-").strip() not in {it.strip() for it in path.read_text().splitlines()}:
-            wrong.append(f"docs/PROOF.md:{at}: {path.name} has not {line}")
+            wrong.append(f"{page}:{at}: {path.name} has not {line}")
     return wrong
 
 
@@ -45,17 +42,15 @@ def tables_differ():
     return [] if block and block[1].splitlines() == "\n".join(tables().values()).splitlines() else ["docs/FORMATS.md: other tables"]
 
 
+def words_missing():
+    """The words of the last table of FORMATS that are not in the files beside them."""
+    rows = re.findall(r"^\|[^|]*\|([^|]*)\| `(crates/[\w/]+\.antt)` \|$", (TOP / "docs/FORMATS.md").read_text(), re.M)
+    named = [(word, path) for words, path in rows for word in re.findall(r"`(\w+)`", words)]
+    return [f"docs/FORMATS.md: no {word} in {path}" for word, path in named if not re.search(rf"\b{word}\b", (TOP / path).read_text())]
+
+
 def main():
-    wrong = shown() + tables_differ()
-    lines = len((TOP / "README.md").read_text().splitlines())
-    if lines > 120:
-        wrong.append(f"README.md: {lines} lines")
-    for name, *words in OTHERS:
-        ran = subprocess.run([sys.executable, TOP / "tools" / name, *words], text=True, stdout=subprocess.PIPE,
-                             stderr=subprocess.STDOUT)
-        print(f"{name}: {ran.stdout.strip()}")
-        if ran.returncode:
-            wrong.append(name)
+    wrong = shown("README.md") + shown("docs/PROOF.md") + tables_differ() + words_missing()
     for page in [*PAGES, TOP / "CHANGELOG.md"]:
         where, code = page.relative_to(TOP), False
         text = page.read_text()

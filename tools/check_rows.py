@@ -5,6 +5,7 @@
 
 Each row must name a test, a theorem or a line of a test program that is there (tools/rows.py says how), and each test must be
 named by a row; each path and file of the crates that the page names must be there, and each row in quotes must stand in a test.
+No two rows of the commands may have one name.
 With --list each row is printed with the places that it names. If there is a C compiler, examples/plain.c is run on each row whose
 input is written in reports and requests, in fifty-one or in the pair. The script ends with status 1 and names what is wrong.
 """
@@ -15,12 +16,20 @@ import subprocess
 import sys
 import tempfile
 
-from rows import INDEX, PAGE, TOP, Places, rows
+from rows import COMMANDS, INDEX, PAGE, TOP, Places, rows
+
+sys.path.append(str((TOP / COMMANDS).parent))
+from rows_of_commands import TABLES
 
 
 def named(places):
     """What the page names and is not there."""
     wrong, part = [], ""
+    there = {it for text in places.every.values() for it in re.findall(r"\w+", text)} | set(places.printed)
+    for at, _, cells, _ in rows():
+        for word in re.findall(r"`(\w+)`", cells.get("Has it", "")):
+            if word not in there and not (TOP / "crates" / word).is_dir():
+                wrong.append(f"docs/ROWS.md:{at}: no {word}")
     for at, line in enumerate(PAGE.read_text().splitlines(), 1):
         part = line[3:] if line.startswith("## ") else part
         has = line.rsplit(" | ", 1)[-1] if line.startswith("|") else line
@@ -95,12 +104,15 @@ def main():
             print(f"{at}: {part}: {name}", *(f"    {where} {of}" for where, of in found), sep="\n")
     tests = [(where, name) for where, names in places.tests.items() for name in names]
     wrong += [f"{where}: {name}: docs/ROWS.md has no row of it" for where, name in tests if (where, name) not in have]
+    names = [name for table in TABLES.values() for name in table()]
+    wrong += [f"{COMMANDS}: two rows are {name!r}" for name in sorted({it for it in names if names.count(it) > 1})]
     if f"## {INDEX}" not in PAGE.read_text():
         wrong.append(f"docs/ROWS.md: no part {INDEX}")
     asked, others = differing()
     wrong += others
     print(*wrong, sep="\n", end="\n" if wrong else "")
-    print(f"{count} rows, {len(tests)} tests; {asked} rows run by examples/plain.c; {len(wrong)} wrong")
+    print(f"{count} rows, {len(tests)} tests and tables, in these {len(names)} rows of the commands by name;"
+          f" {asked} rows run by examples/plain.c; {len(wrong)} wrong")
     sys.exit(1 if wrong else 0)
 
 

@@ -1,15 +1,11 @@
 #!/usr/bin/env python3
-"""Compares the words of the documents with the grammar: the manual pages, the completion for bash, README and FORMATS; and
-counts how long the pages for newcomers take to read.
+"""Compares the words of the documents with the grammar: the manual pages, the completion for bash, README and FORMATS.
 
     python3 tools/check_words.py
 
-A word of a page is what stands between blanks and has a letter or a digit, in sentences, tables and blocks alike; 200 of them
-are a minute. All pages that README sends a newcomer to may take 60 minutes. The grammar is the table in
-`crates/office_words/specs/Table.antt`, beside it what `crates/office_ends/specs/Words.antt` takes, and, of the server,
-`crates/serve_top/specs/App.antt`.
-The script ends with status 1 and names each word that a page lacks or has too much. If groff is there, the manual pages must
-give it no warning.
+The grammar is the table in `crates/office_words/specs/Table.antt`, beside it what `crates/office_ends/specs/Words.antt` takes,
+and, of the server, `crates/serve_top/specs/App.antt`. The script ends with status 1 and names each word that a page lacks or has
+too much. If groff is there, the manual pages must give it no warning.
 """
 import pathlib
 import re
@@ -18,8 +14,6 @@ import subprocess
 import sys
 
 TOP = pathlib.Path(__file__).resolve().parent.parent
-NEWCOMER = ["README.md", "docs/USE.md", "docs/HTTP.md", "docs/FORMATS.md", "docs/RULES.md", "docs/PROOF.md"]
-MINUTES, A_MINUTE = 60, 200
 ASK = """source docs/toll_office.bash
 COMP_WORDS=("$@"); COMP_CWORD=$((${#COMP_WORDS[@]} - 1)); "_$1"; echo "${COMPREPLY[@]}"
 """
@@ -45,8 +39,9 @@ def office():
     row = r'(?:stated|flagged)_form \(codes "(\w+)"\) (\[\]|\(.*?\[\]\)) (\(.*?\)|[\w\[\]]+) ?(\w*)$'
     rows = re.findall(row, body, re.M)
     forms = {name: (names(places), names(options) + names(flags)) for name, places, options, flags in rows}
-    beside = re.search(r'bytes_eq name \(codes "(\w+)"\)', text("crates/office_ends/specs/Words.antt"))
-    return {**forms, beside.group(1): (["base"], [])}
+    words = text("crates/office_ends/specs/Words.antt")
+    beside = re.search(r'bytes_eq name \(codes "(\w+)"\)', words)
+    return {**forms, beside.group(1): (["base"], sorted(set(re.findall(r'codes "--(\w+)"', words))))}
 
 
 def server():
@@ -58,13 +53,6 @@ def completed(*words):
     """What the completion offers behind these words."""
     ran = subprocess.run(["bash", "-c", ASK, "bash", *words], cwd=TOP, text=True, capture_output=True, check=True)
     return ran.stdout.split()
-
-
-def minutes():
-    """How long each page for newcomers takes, and all of them."""
-    words = {it: re.sub(r"<!--.*?-->", "", text(it)).split() for it in NEWCOMER}
-    found = {it: sum(re.search(r"[^\W_]", word) is not None for word in said) / A_MINUTE for it, said in words.items()}
-    return found, sum(found.values())
 
 
 def plain(page):
@@ -113,11 +101,7 @@ def main():
         for page in ("docs/toll_office.1", "docs/toll_serve.1"):
             ran = subprocess.run(["groff", "-man", "-Tutf8", "-ww", "-z", page], cwd=TOP, text=True, stderr=subprocess.PIPE)
             wrong += ran.stderr.splitlines()
-    pages, whole = minutes()
-    if whole > MINUTES:
-        wrong.append(f"the pages for newcomers take {whole:.1f} minutes")
     print(*wrong, sep="\n", end="\n" if wrong else "")
-    print(", ".join(f"{pathlib.Path(name).stem} {time:.1f}" for name, time in pages.items()), f"= {whole:.1f} minutes to read")
     print(f"{len(forms)} commands, {len(every)} options, {len(options)} of the server: {len(wrong)} wrong")
     sys.exit(1 if wrong else 0)
 

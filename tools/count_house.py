@@ -4,23 +4,24 @@
     python3 tools/count_house.py [--names] [TOP]
 
 A clause is a `requires` or an `ensures` with its name and its braces, or a ghost member of a trait or a type; its lines are
-those that it takes in its file. A clause line is a repeat if the same clause, blanks apart, stood earlier. The walk is that of
-a byte from standard input to a notice, where a day is answered in rounds: the calls and returns of WALK in their order, each in
-the crate that has it now; it crosses a border where the next is in another crate. With --names files and definitions are named,
-not counted alone. It proves nothing and changes nothing.
+those that it takes in its file. A clause line is a repeat if the same clause, blanks apart, stood earlier. A paragraph is three
+clauses and more of a function that one earlier function has too. The walk is that of a byte from `main` and standard input to
+a notice, where a day is answered in rounds: the calls and returns of WALK in their order, each in the crate that has it now; it
+crosses a border where the next is in another crate. With --names files and definitions are named, not counted alone. It proves
+nothing and changes nothing.
 """
 import argparse
 import collections
 import pathlib
 import re
-import sys
 
 # The calls that a byte goes through, in their order: TYPE::FUNCTION, or FUNCTION with a piece of the path that it stands in; of
 # several with a bar between them the first that is there.
 WALK = """
-main@toll_office run_office@ office@entry read_words@words perform@performing import@importing import_new@importing
-import_later@importing import_begun@ import_under@ run_day@ run_opened@ run_plan@ run_rounds@ next_round@ round@rounds
-work_round@ read_on@reading gather@reading next@day_ahead next@day_reader advance@cutter read@source next@day_reader
+main@toll_office beside@crews run_and_stop@ run_office@ run_words@toll_office
+answered@answering explained@explaining office@entry read_words@words perform@performing import@importing import_new@importing
+import_later@importing import_begun@ import_under@ run_day@ begin@begun Floor::new begin@begun run_day@ run_opened@ run_plan@ run_rounds@ next_round@ round@rounds
+work_round@ read_on@reading gather@reading next@day_ahead next@day_reader advance@cutter WatchedSource::read read@source WatchedSource::read advance@cutter next@day_reader
 add@consumed add@beside_digester add@beside_digester take@intake read_line@ admit@gatekeeper Sorter::put take@sorter
 take@intake next@day_reader next@day_ahead gather@reading read_on@reading work_round@ feed_these@ feed@floor
 feed_report@ see@tracker feed_report@ of_report@ feed@floor give_all@work give_one@ give@floor give_one@
@@ -55,13 +56,45 @@ def clauses(text):
         at += 1
 
 
+def functions_of(sources):
+    """Of each function the lines of its clauses by their texts, in the order of the files."""
+    for path in sources:
+        text, found = path.read_text(), None
+        heads = [it.start() for it in re.finditer(r"^[ \t]*(?:pub(?:\([\w ]+\))? )?(?:const |unsafe )*fn \w+", text, re.M)]
+        starts = [text.count("\n", 0, it) for it in heads]
+        functions = [{} for _ in starts]
+        for at, lines, clause in clauses(text):
+            before = [number for number, start in enumerate(starts) if start <= at]
+            if before and not clause.startswith("ghost"):
+                functions[before[-1]][clause] = lines
+        yield from functions
+
+
+def paragraphs(sources):
+    """The lines of clauses of functions, those in paragraphs, and how many functions have one: three clauses and more that
+    one earlier function has too."""
+    seen, every, lines, count = [], 0, 0, 0
+    by_clause = {}
+    for own in functions_of(sources):
+        every += sum(own.values())
+        beside = collections.Counter(it for clause in own for it in by_clause.get(clause, ()))
+        best = max(beside, key=lambda it: (beside[it], -it), default=None)
+        if best is not None and beside[best] >= 3:
+            count += 1
+            lines += sum(own[clause] for clause in own if clause in seen[best])
+        for clause in own:
+            by_clause.setdefault(clause, []).append(len(seen))
+        seen.append(own)
+    return every, lines, count
+
+
 def station(top, said, cache):
     """The crate of a call of the walk."""
     kind, _, name = said.rpartition("::")
     name, _, piece = name.partition("@")
     for path, text in cache:
         where = str(path.relative_to(top))
-        if "_rows/" in where or "/tests_" in where or "/example_" in where:
+        if "/tests_" in where or "/example_" in where:
             continue
         if not re.search(rf"\bfn {name}\b", text) or (piece and not re.search(rf"(?:^|[/_]){piece}(?:[/_.]|$)", where)):
             continue
@@ -78,7 +111,7 @@ def main():
     top, long_lines, long_files, no_head = given.top.resolve(), [], [], []
     names = [line.split(":")[0].split()[0] for line in (top / "crates.txt").read_text().splitlines()
              if line.strip() and not line.startswith("#")]
-    tests = [it for it in names if it.endswith("_rows") or it.startswith(("tests_", "example_", "kept_in_memory"))]
+    tests = [it for it in names if it.startswith(("tests_", "example_"))]
     print(f"crates: {len(names)}, of which {len(tests)} are of tests and examples")
     total = collections.Counter()
     for place, ending in (("src", ".rt"), ("specs", ".antt"), ("proofs", ".antt")):
@@ -106,6 +139,8 @@ def main():
     if given.names:
         for text, times in how.most_common(40):
             print(f"    {times} times: {text[:160]}")
+    every, shared, of = paragraphs(sources(top, ".rt", "src"))
+    print(f"paragraphs of three clauses and more that an earlier function has too: {shared} of {every} lines, in {of} functions")
     cache = [(path, path.read_text()) for path in sources(top, ".rt", "src")]
     gone, walk = [], []
     for said in WALK.split():
@@ -122,7 +157,6 @@ def main():
         print(f"{what}: {len(found)}")
         if given.names:
             print("".join(f"    {it}\n" for it in found), end="")
-    sys.exit(0)
 
 
 if __name__ == "__main__":

@@ -83,7 +83,9 @@ class Edit:
 
 def edits_of(crate):
     """The edits of a crate, those of the gate first."""
-    found = [Edit(crate, it.stem, it.read_text().splitlines()) for it in sorted((TOP / "crates" / crate / "must-fail").glob("*.edit"))]
+    found = []
+    for it in sorted((TOP / "crates" / crate / "must-fail").glob("*.edit")):
+        found.append(Edit(crate, it.stem, list(filter(None, it.read_text().split("\n")))))
     file = TOP / "tools/edits" / f"{crate}.edits"
     for block in file.read_text().strip("\n").split("\n\n") if file.is_file() else []:
         head, *lines = block.split("\n")

@@ -3,13 +3,14 @@
 
     python3 tools/pictures.py [--check] [--dark FOLDER]
 
-The layers are drawn from crates.txt, the plot from bench/speed.csv. With --check nothing is written, and the script ends with
+The layers are drawn from crates.txt, the bars from bench/speed.csv, the tables of the file from the definitions. With --check nothing is written, and the script ends with
 status 1 where a picture would change. With --dark the dark forms are written to FOLDER, to be looked at.
 """
 import argparse
 import csv
 import math
 import pathlib
+import re
 import sys
 from html import escape
 
@@ -64,12 +65,14 @@ class Picture:
     def dot(self, x, y, colour="blue", size=4.0):
         self.shapes.append(f'<circle cx="{x:.1f}" cy="{y:.1f}" r="{size:g}" class="f-{colour}"/>')
 
-    def text(self, x, y, said, colour="text", size=13, anchor="start", bold=False):
-        long = len(said) * size * (0.57 if bold else 0.53)
+    def text(self, x, y, said, colour="text", size=13, anchor="start", bold=False, code=False):
+        long = len(said) * size * (0.61 if code else 0.57 if bold else 0.53)
         left = x - {"start": 0, "middle": long / 2, "end": long}[anchor]
         if left < 0 or left + long > self.width:
             sys.exit(f"{self.title}: no room for: {said}")
         weight = ' font-weight="600"' if bold else ""
+        if code:
+            weight += ' font-family="DejaVu Sans Mono, Menlo, Consolas, monospace" xml:space="preserve"'
         self.shapes.append(f'<text x="{x:g}" y="{y:g}" class="t-{colour}" font-size="{size:g}" '
                            f'text-anchor="{anchor}"{weight}>{escape(said)}</text>')
 
@@ -114,10 +117,10 @@ def vehicle_day():
             p.dot(second(t), mile(at), "blue", 4.5)
     p.dot(second(225), mile(45.25), "gold", 7)
     note = lambda t, at, said, colour: p.text(second(t) + 12, mile(at) + 18, said, colour, 13, bold=True)
-    note(15, 42.35, "told: the toll of segment 42", "green")
-    note(75, 43.15, "told: the toll of 43; charged what it was told for 42", "green")
-    note(165, 44.3, "told: 44; charged: 43", "green")
-    p.text(second(225) - 12, mile(45.25) - 14, "in the exit lane: told nothing; charged: 44", "gold", 13, "end", True)
+    note(15, 42.35, "is told the toll of segment 42", "green")
+    note(75, 43.15, "is told the toll of 43, pays that of 42", "green")
+    note(165, 44.3, "told the toll of 44, pays 43's", "green")
+    p.text(second(225) - 12, mile(45.25) - 14, "in the exit lane: is told nothing, pays that of 44", "gold", 13, "end", True)
     p.text(20, 405, "A vehicle that leaves a segment by its exit lane is not charged for that segment.", "soft", 13)
     return p
 
@@ -240,20 +243,24 @@ def import_tree():
 
 def trust():
     """What is proved, tested and trusted."""
-    p = Picture(900, 400, "What is proved, tested and trusted")
+    p = Picture(900, 450, "What is proved, tested and trusted")
     p.box(20, 20, 860, 360, "grey-box", "line", 10)
-    p.text(40, 48, "Trusted: the system, the machine, the C library, LLVM, the kit's prover and compiler", "text", 14, bold=True)
+    p.text(40, 48, "Trusted: the machine, the system, the C library, LLVM; the kit's prover, compiler and libraries", "text", 14,
+           bold=True)
     p.box(50, 70, 800, 280, "gold-box", "gold", 10)
     p.text(70, 98, "Only tested: standard input and output, files, sockets, threads, memory that lasts", "text", 14, bold=True)
-    p.text(70, 118, "A few lines of code at each edge, which keep the same contract about their own failures", "soft", 13)
+    p.text(70, 118, "Some hundreds of lines at the edges, which keep the same contract about their own failures", "soft", 13)
     p.box(90, 140, 720, 180, "green-box", "green", 10)
     p.text(110, 168, "Proved: everything between the edges", "text", 14, bold=True)
-    texts = ["notices and charges are those of the rules", "a refused line is the first, with its cause",
+    texts = ["notices and charges are those of the definitions", "a refused line is the first, with its cause",
              "a day is kept once and whole", "a failure is told of the part that failed",
              "workers and their order change nothing", "no index out of range, no sum that wraps"]
     for i, said in enumerate(texts):
         p.text(120 + (i % 2) * 350, 200 + (i // 2) * 28, "· " + said, "text", 13)
     p.text(110, 302, "Premise: the edges give back what they hold. Memory may run out at any time.", "soft", 13)
+    p.box(20, 392, 860, 44, "violet-box", "violet", 10)
+    p.text(40, 419, "Yours to check: that the definitions are the rules you want. They are some pages in crates/road_time/specs/.",
+           "text", 13, bold=True)
     return p
 
 
@@ -263,7 +270,7 @@ def crate_layers():
     rows = {head: [names[i:i + across] for i in range(0, len(names), across)] for head, names in kinds.items()}
     wide, high = 138, 30
     p = Picture(60 + across * (wide + 8), 70 + sum(24 + len(it) * (high + 6) + 12 for it in rows.values()), "The layers of crates")
-    p.text(20, 30, f"{len(table)} crates, the lowest group at the bottom. A crate stands only on crates before it.",
+    p.text(20, 30, f"{len(table)} crates, the lowest group at the bottom. A crate stands only on crates below it, or to its left.",
            "text", 14, bold=True)
     fills = ["blue", "green", "gold", "violet", "red"]
     y = 48
@@ -282,53 +289,193 @@ def crate_layers():
     return p
 
 
+BARS = [("sha256sum", "sha256sum", "violet"), ("answers, 1 worker", "answers, 1 worker", "green"),
+        ("answers, 4 workers", "4 workers", "green"), ("import, 1 worker", "import, 1 worker", "blue"), ("import, 4 workers", "4 workers", "blue")]
+
+
 def speed():
-    """Nanoseconds a line against lines, from bench/speed.csv."""
+    """Processor and wall time of a line as bars, from bench/speed.csv."""
     with open(TOP / "bench" / "speed.csv", newline="") as file:
-        rows = [it for it in csv.DictReader(file)]
-    series = {}
-    for row in rows:
-        series.setdefault(row["command"], []).append((int(row["lines"]), float(row["wall"])))
-    p = Picture(880, 380, "Wall nanoseconds a line against the number of lines")
-    left, top, wide, high = 80, 60, 560, 260
-    lines = sorted({n for points in series.values() for n, _ in points})
-    greatest = max(v for points in series.values() for _, v in points)
-    ceiling = math.ceil(greatest / 200) * 200
-    across = lambda n: left + n / max(lines) * wide
-    upward = lambda v: top + high - v / ceiling * high
-    p.text(20, 30, "Wall time a line, in nanoseconds (lower is better)", "text", 14, bold=True)
-    for v in range(0, ceiling + 1, 200):
-        p.line(left, upward(v), left + wide, upward(v), "grid")
-        p.text(left - 8, upward(v) + 4, str(v), "soft", 12, "end")
-    for n in lines:
-        p.line(across(n), top + high, across(n), top + high + 5)
-        p.text(across(n), top + high + 20, f"{n / 1e6:g} million", "soft", 12, "middle")
-    p.text(left, top + high + 46, "Lines of the day. The greatest day has 256 expressways and 500,000 vehicles, the others one expressway.",
-           "soft", 12)
-    colours = [("import", "blue"), ("answers", "green"), ("unproved", "gold"), ("sha256sum", "violet"), ("wc", "soft")]
-    names = sorted(series, key=lambda name: -sorted(series[name])[-1][1])
-    below = [upward(sorted(series[name])[-1][1]) + 4 for name in names]
-    for i in range(1, len(below)):
-        below[i] = max(below[i], below[i - 1] + 18)
-    least = top + high + 4
-    for i in reversed(range(len(below))):
-        below[i] = min(below[i], least)
-        least = below[i] - 18
-    for name, at in zip(names, below):
-        points = sorted(series[name])
-        colour = next((it for start, it in colours if name.startswith(start)), "red")
-        fine = "2 4" if name.startswith("unproved, answers") else "7 4" if "4 workers" in name else ""
-        p.path([(across(n), upward(v)) for n, v in points], colour, 2.5, fine)
-        for n, v in points:
-            p.dot(across(n), upward(v), colour, 4)
-        end = upward(points[-1][1])
-        p.line(left + wide + 6, end, left + wide + 18, at - 4, "line", 0.8)
-        p.text(left + wide + 22, at, name.split(", no")[0], colour, 13, bold=True)
+        rows = {(it["day"], it["command"].split(", no")[0]): it for it in csv.DictReader(file)}
+    days = {day: int(it["lines"]) for (day, _), it in rows.items()}
+    p = Picture(900, 116 + len(days) * 128, "Processor and wall time a line")
+    p.text(20, 28, "Nanoseconds a line (shorter is better)", "text", 14, bold=True)
+    most = max(float(rows[day, it[0]][kind]) for day in days for it in BARS for kind in ("processor", "wall"))
+    for left, kind, head in ((110, "processor", "of processors, all threads together"), (510, "wall", "by the clock")):
+        p.text(left, 56, head, "soft", 13)
+        for k, (day, lines) in enumerate(days.items()):
+            top = 68 + k * 128
+            if kind == "processor":
+                p.text(20, top + 12, day, "text", 13, bold=True)
+                p.text(20, top + 30, f"{lines / 1e6:g} million", "soft", 12)
+            for i, (command, name, colour) in enumerate(BARS):
+                value, y = float(rows[day, command][kind]), top + i * 22
+                wide = value / most * 220
+                p.box(left + 116, y, wide, 16, f"{colour}-box", colour, 2)
+                p.text(left + 110, y + 13, name, "soft", 12, "end")
+                p.text(left + 122 + wide, y + 13, f"{value:.0f}", "text", 12)
+    base = 68 + len(days) * 128
+    p.text(20, base + 8, "With one worker, too, the program has more threads than one: helpers, and for import two that take digests.", "soft", 12)
+    p.text(20, base + 26, "The greatest day has 256 expressways and 500,000 vehicles, the others one expressway.", "soft", 12)
+    return p
+
+
+def proof():
+    """One rule from its definition to a wrong edit that is refused, in the code's own lines."""
+    specs = (TOP / "crates/road_time/specs/Rates.antt").read_text()
+    code = (TOP / "crates/ways_expressway/src/formula.rt").read_text()
+    meaning = specs[specs.index("toll_of t cars lav blocked ="):].splitlines()[:4]
+    promise = next(line.strip() for line in code.splitlines() if "ensures exact" in line and "toll_of" in line)
+    body = code[code.index("    if cars > tariff.crowd"):].splitlines()[:6]
+    edited = body[0].replace(" && !blocked", "")
+    p = Picture(940, 640, "One rule, from its definition to a refusal")
+    p.text(20, 30, "One rule, from its definition to the refusal of a wrong line", "text", 14, bold=True)
+
+    def part(y, h, name, note, lines, colour):
+        p.box(20, y, 620, h, f"{colour}-box", colour, 8)
+        p.text(34, y + 24, name, "text", 14, bold=True)
+        p.text(34 + 9 * len(name), y + 24, note, "soft", 12)
+        for i, (said, ink) in enumerate(lines):
+            p.text(34, y + 52 + i * 18, said, ink, 11, code=True)
+
+    part(50, 128, "1. The definition", "what the word toll_of means", [(it, "text") for it in meaning], "violet")
+    part(212, 74, "2. The contract", "what the function promises, for all it may be given", [(promise, "text")], "gold")
+    part(320, 160, "3. The code", "what runs, in numbers of 32 and 64 bits", [(it, "text") for it in body], "green")
+    part(518, 96, "4. A wrong line", "drivers are charged although the road is blocked",
+         [("-" + body[0], "soft"), ("+" + edited, "red")], "red")
+    p.line(330, 212, 330, 180, "line", 1.5, arrow=True)
+    p.text(342, 201, "uses the word", "soft", 12)
+    p.path([(640, 400), (680, 400), (680, 262), (650, 262)], "green", 2)
+    p.line(680, 262, 643, 262, "green", 2, arrow=True)
+    p.text(692, 330, "proved to keep it,", "green", 13, bold=True)
+    p.text(692, 348, "for every tariff, number", "text", 12)
+    p.text(692, 364, "of cars and average:", "text", 12)
+    p.text(692, 380, "the program is built", "text", 12)
+    p.path([(640, 570), (900, 570), (900, 236), (650, 236)], "red", 2, "6 4")
+    p.line(680, 236, 643, 236, "red", 2, arrow=True)
+    p.text(692, 516, "not proved: there is a case", "red", 13, bold=True)
+    p.text(692, 534, "with another answer, so", "text", 12)
+    p.text(692, 550, "the program is not built", "text", 12)
+    return p
+
+
+def room():
+    """Where a connection to the server waits, and for what."""
+    seats = re.search(r"const SEATS: usize = (\d+)", (TOP / "crates/serve_room/src/hearing.rt").read_text())
+    p = Picture(960, 440, "Who waits for whom in the server")
+    p.text(20, 30, "Who waits for whom in toll_serve, with six readers", "text", 14, bold=True)
+    p.box(150, 60, 220, 330, "gold-box", "gold", 10)
+    p.text(170, 86, "the waiting room", "text", 14, bold=True)
+    for i, said in enumerate([f"{seats[1]} seats, no thread of its own", "each has 10 s for its head"]):
+        p.text(170, 106 + i * 18, said, "soft", 12)
+    for i in range(3):
+        for j in range(8):
+            p.box(170 + j * 23, 142 + i * 26, 16, 16, "page", "gold", 3)
+    p.text(170, 244, "With a whole head it goes to", "text", 12)
+    p.text(170, 260, "a reader that is free.", "text", 12)
+    p.card(170, 282, 90, 34, ["the pass"], "green-box", "green")
+    p.text(170, 340, "There is one. A POST of a day", "text", 12)
+    p.text(170, 356, "takes it along; the others wait", "text", 12)
+    p.text(170, 372, "here, and keep no reader busy.", "text", 12)
+    p.text(20, 190, "connections", "text", 13, bold=True)
+    p.line(30, 206, 146, 206, "line", 2, arrow=True)
+    p.text(20, 232, "no seat is free:", "soft", 12)
+    p.text(20, 248, "the oldest without", "soft", 12)
+    p.text(20, 264, "a head gives its own", "soft", 12)
+    for i, what in enumerate(["GET /live, the page", "POST, with the pass", "POST: its answer", "POST: its answer", "GET of a day",
+                              "GET of a vehicle"]):
+        y, is_post = 58 + i * 56, what.startswith("POST, ")
+        p.card(440, y, 170, 44, [f"reader {i + 1}", what], "green-box" if is_post else "blue-box", "green" if is_post else "blue", 12)
+        p.line(372, y + 22, 436, y + 22, "line", 1.5, arrow=True)
+    p.text(150, 424, "Of six readers at most four have POSTs, and at most four read what is kept; one at least does neither.", "soft", 12)
+    p.card(700, 60, 230, 60, ["the live board", "its readers never wait"], "blue-box", "blue")
+    p.card(700, 150, 230, 70, ["the imports' lock", "from the pass to its return:", "one day at a time"], "green-box", "green")
+    p.card(700, 250, 230, 70, ["the database's lock", "for one call at a time;", "longest while a day is stored"], "violet-box", "violet")
+    p.card(700, 350, 230, 46, ["tolls.db"], "gold-box", "gold")
+    p.line(612, 80, 696, 86, "line", 1.5, arrow=True)
+    p.line(612, 140, 696, 176, "line", 1.5, arrow=True)
+    p.line(612, 300, 696, 288, "line", 1.5, arrow=True)
+    p.line(612, 356, 696, 306, "line", 1.5, arrow=True)
+    p.line(815, 222, 815, 247, "line", 1.5, arrow=True)
+    p.line(815, 322, 815, 347, "line", 1.5, arrow=True)
+    p.line(745, 148, 745, 123, "green", 1.5, arrow=True)
+    p.text(753, 140, "publishes", "soft", 12)
+    p.path([(526, 158), (526, 164), (400, 164), (400, 299), (270, 299)], "green", 1.5, "5 4")
+    p.line(290, 299, 264, 299, "green", 1.5, arrow=True)
+    return p
+
+
+def days_line():
+    """The days of an office on a line: a history, the days that are kept, the 69 days that a day looks back at, a new beginning."""
+    p = Picture(940, 330, "The line of days")
+    left, wide, first, last = 40, 860, 28, 112
+    at = lambda day: left + (day - first) * wide / (last - first)
+    p.text(20, 30, "The days of an office whose first day is 100", "text", 14, bold=True)
+
+    def span(y, low, high, said, colour, dash=""):
+        p.box(at(low), y, at(high + 1) - at(low), 30, f"{colour}-box" if colour != "line" else "page", colour, 4, 1.0, dash)
+        p.text((at(low) + at(high + 1)) / 2, y + 20, said, "text", 12, "middle")
+
+    def ticks(y, days):
+        for day in days:
+            p.line(at(day), y, at(day), y + 6)
+            p.text(at(day), y + 20, str(day), "soft", 12, "middle")
+
+    p.text(20, 58, "past 100, then import 100 to 107", "text", 13, bold=True)
+    span(68, 31, 99, "the history: amounts of the 69 days before the base, 31 to 99", "gold")
+    span(68, 100, 107, "kept days", "blue")
+    ticks(100, (31, 100, 108))
+    p.text(at(100), 134, "the base", "gold", 12, "middle")
+    p.text(20, 162, "import 104: a vehicle may ask for any of the 69 days before", "text", 13, bold=True)
+    span(172, 35, 103, "what day 104 looks back at: 35 to 103", "green")
+    p.box(at(104), 172, at(105) - at(104), 30, "blue-box", "blue", 2)
+    ticks(204, (35, 104))
+    p.text(20, 256, "renew 108: these 69 days become the history of a new base; all else is deleted", "text", 13, bold=True)
+    span(266, 31, 38, "deleted", "line", "4 3")
+    span(266, 39, 107, "the new history: amounts of the days 39 to 107, no longer their records", "gold")
+    ticks(298, (31, 39, 108))
+    return p
+
+
+def file_tables():
+    """The tables of tolls.db, from their texts in FORMATS, which are those of the definitions."""
+    said = (TOP / "docs/FORMATS.md").read_text()
+    found = {}
+    for name, inside in re.findall(r"^CREATE TABLE (\w+) \((.*?)\) STRICT$", said, re.S | re.M):
+        parts = re.split(r",\s+(?![^()]*\))", inside)
+        keys = next((re.findall(r"\w+", it[len("PRIMARY KEY"):]) for it in parts if it.startswith("PRIMARY KEY")), None)
+        columns = [it.split()[0] for it in parts if not it.startswith("PRIMARY KEY")]
+        found[name] = columns, keys or [it.split()[0] for it in parts if "PRIMARY KEY" in it]
+    of = {"days": "a kept day", "day_tariffs": "its seal", "spent": "an amount", "past": "the history, if any",
+          "tariffs": "an expressway's own tariff", "form": "the version"}
+    places = {"days": (30, 60), "day_tariffs": (330, 60), "spent": (330, 210), "past": (630, 60), "tariffs": (630, 255), "form": (30, 290)}
+    p = Picture(900, 430, "The tables of tolls.db")
+    p.text(20, 30, "The tables of tolls.db, with what a row of each is. Columns in bold are the key.", "text", 14, bold=True)
+    for name, (columns, keys) in found.items():
+        x, y = places[name]
+        high = 38 + 20 * len(columns)
+        colour = {"spent": "green", "past": "gold"}.get(name, "blue" if name.startswith("day") else "line")
+        p.box(x, y, 240, high, "grey-box" if colour == "line" else f"{colour}-box", colour, 6)
+        p.text(x + 12, y + 22, name, "text", 14, bold=True)
+        p.text(x + 228, y + 22, of[name], "soft", 12, "end")
+        p.line(x, y + 30, x + 240, y + 30, colour)
+        for i, column in enumerate(columns):
+            p.text(x + 12, y + 48 + i * 20, column, "text", 12, bold=column in keys)
+    p.line(270, 108, 328, 108, "blue", 1.5, arrow=True)
+    p.text(299, 100, "one", "soft", 12, "middle")
+    p.path([(270, 130), (300, 130), (300, 258), (318, 258)], "green", 1.5)
+    p.line(310, 258, 328, 258, "green", 1.5, arrow=True)
+    p.text(306, 200, "many", "soft", 12)
+    p.path([(630, 180), (600, 180), (600, 258), (582, 258)], "green", 1.5)
+    p.line(590, 258, 572, 258, "green", 1.5, arrow=True)
+    p.text(606, 226, "many", "soft", 12)
+    p.text(330, 392, "Amounts of kept days and of the history stand in one table.", "soft", 12)
     return p
 
 
 PICTURES = {"vehicle_day": vehicle_day, "minutes": minutes, "accident": accident, "pipeline": pipeline,
-            "layers": crate_layers, "import": import_tree, "trust": trust, "speed": speed}
+            "layers": crate_layers, "import": import_tree, "trust": trust, "speed": speed, "proof": proof, "days": days_line, "room": room,
+            "tables": file_tables}
 
 
 def main():

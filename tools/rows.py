@@ -2,9 +2,9 @@
 """The rows of docs/ROWS.md and the tests of the crates, as tools/check_rows.py and tools/write_docs.py read them.
 
 A row is a line of a table, but for the index of tests. Where it stands is said in its column "Has it" or "Line", else in the text
-of its part. What is said names tests (functions behind `#[test]`), theorems with their file, constants or functions of a
-program that is a test, a line that such a program must print, or a row in quotes that stands in a file of tests; "the same" is
-what was said of the row above.
+of its part. What is said names tests (functions behind `#[test]`), tables of rows of the commands (functions of
+trials/rows_of_commands.py), theorems with their file, constants or functions of a program that is a test, a line that such a
+program must print, or a row in quotes that stands in a file of tests; "the same" is what was said of the row above.
 """
 import pathlib
 import re
@@ -12,15 +12,18 @@ import re
 TOP = pathlib.Path(__file__).resolve().parent.parent
 PAGE = TOP / "docs/ROWS.md"
 INDEX = "The tests"
+COMMANDS = "trials/rows_of_commands.py"
+TEST = r"#\[test[^\]]*\]\s*(?:#\[[^\]]*\]\s*)*(?:pub )?fn (\w+)"
 
 
 def files():
-    """The sources, tests and proofs of the crates, by their paths."""
+    """The sources, tests and proofs of the crates, and the rows of the commands, by their paths."""
     found = {}
     for path in sorted(TOP.glob("crates/*/**/*")):
         where = path.relative_to(TOP).as_posix()
         if path.suffix in (".rt", ".antt") and "/out/" not in where:
             found[where] = path.read_text()
+    found[COMMANDS] = (TOP / COMMANDS).read_text()
     return found
 
 
@@ -53,7 +56,8 @@ class Places:
         self.every = files()
         self.tests, self.by_name, self.words, self.printed = {}, {}, {}, {}
         for where, text in self.every.items():
-            for name in re.findall(r"#\[test[^\]]*\]\s*(?:#\[[^\]]*\]\s*)*(?:pub )?fn (\w+)", text):
+            behind = r"^@(?:table|relation)\ndef (\w+)" if where == COMMANDS else TEST
+            for name in re.findall(behind, text, re.M):
                 self.tests.setdefault(where, []).append(name)
                 self.by_name.setdefault(name, []).append(where)
             kind = r"^(\w+) :" if where.endswith(".antt") else r"\b(?:fn|const|static) (\w+)"
@@ -87,7 +91,7 @@ class Places:
             elif any(it.endswith("worked.rt") or it.split("/")[1] in self.printed and not word.islower()
                      for it in self.words.get(word, [])):
                 found += [(where, word) for where in self.words[word] if not crates or where.split("/")[1] in crates]
-        for word in re.findall(r"`([\w/]+\.rt)`", said):
+        for word in re.findall(r"`([\w/]+\.(?:rt|py))`", said):
             beside = [it for where in self.every if where.endswith(word) for it in self.tests_beside(where)]
             if not {name for _, name in beside} & {name for _, name in found}:
                 found += beside

@@ -1,9 +1,9 @@
 #!/usr/bin/env python3
-"""Writes what the documents have from other files: the kit's name from its KIT-ID, the trusted libraries and the table of
-crates from crates.txt and the crates' own first sentences, the table of speed from bench/speed.csv, the counts of runs that
-want memory from bench/memory.csv, and the index of tests.
+"""Writes what the documents have from other files: the kits that the gate passed with from the file KIT, the trusted libraries
+and the table of crates from crates.txt and the crates' own first sentences, the table of speed from bench/speed.csv, the counts
+of runs that want memory from bench/memory.csv, and the index of tests.
 
-    python3 tools/write_docs.py [--check] [--kit /opt/rattle/KIT-ID]
+    python3 tools/write_docs.py [--check]
 
 A list or table stands between the lines `<!-- NAME, by tools/write_docs.py -->` and `<!-- end -->`. With --check nothing is
 written, and the script ends with status 1 where a document would change.
@@ -94,8 +94,8 @@ def speed_figure():
     it = max(imports, key=lambda it: int(it["lines"]))
     base = next(float(of["wall"]) for of in runs if of["day"] == it["day"] and of["command"] == "sha256sum")
     seconds, date = int(it["lines"]) * float(it["wall"]) / 1e9, re.search(r"\d{4}-\d\d-\d\d", where)[0]
-    said = (f"When last measured ({date}), `import` of a day of {int(it['lines']):,} lines took {seconds:.0f} seconds and "
-            f"{it['megabytes']} MB, {float(it['wall']) / base:.1f} times as long as `sha256sum` of the same file. This is one "
+    said = (f"When last measured ({date}), `import` of a day of {int(it['lines']):,} lines took {seconds:.1f} seconds and "
+            f"{it['megabytes']} MB, {float(it['wall']) / base:.2f} times as long as `sha256sum` of the same file. This is one "
             f"machine's figure, and nothing of it is proved; [PERFORMANCE](docs/PERFORMANCE.md) has the method.")
     return textwrap.fill(said, 120, break_on_hyphens=False, break_long_words=False)
 
@@ -107,15 +107,10 @@ def speed_table():
             "| Day | Lines | Command | Processor ns a line | Wall ns a line | Wall, times `sha256sum` | MB |",
             "|---|---|---|---|---|---|---|"]
     base = {it["day"]: float(it["wall"]) for it in runs if it["command"] == "sha256sum"}
-    plain = {it["day"]: float(it["wall"]) for it in runs if it["command"].startswith("unproved, import")}
-    beside = [f"{float(it['wall']) / plain[it['day']]:.2f} ({it['day']})" for it in runs
-              if it["command"] == "import, 1 worker" and it["day"] in plain]
     for it in runs:
         times = float(it["wall"]) / base[it["day"]]
         rows.append(f"| {it['day']} | {int(it['lines']):,} | `{it['command']}` | {it['processor']} | {it['wall']} | {times:.2f} "
                     f"| {it['megabytes']} |")
-    if beside:
-        rows += ["", f"Wall time of `import` with one worker, times that of the unproved program: {', '.join(beside)}."]
     return "\n".join(rows)
 
 
@@ -140,9 +135,14 @@ PIECES = {"trusted libraries": trusted, "crates": crate_table, "speed": speed_ta
           "memory": memory_counts, "tests": index}
 
 
-def written(text, kit):
-    """A page with the kit's name and each piece as they are now."""
-    text = re.sub(r"rattle-kit-[0-9]+[a-z]*", kit, text)
+def kits():
+    """The kits that the gate passed with, as a sentence has them."""
+    return " or ".join(f"`{it}`" for it in (TOP / "KIT").read_text().split())
+
+
+def written(text):
+    """A page with the kits' names and each piece as they are now."""
+    text = re.sub(r"`rattle-kit-\w+`(?: or `rattle-kit-\w+`)*", kits(), text)
     for name, piece in PIECES.items():
         mark = f"<!-- {name}, by tools/write_docs.py -->\n"
         if mark in text:
@@ -158,13 +158,11 @@ def written(text, kit):
 def main():
     words = argparse.ArgumentParser()
     words.add_argument("--check", action="store_true")
-    words.add_argument("--kit", type=pathlib.Path, default=pathlib.Path("/opt/rattle/KIT-ID"))
     given = words.parse_args()
-    kit = given.kit.read_text().split()[0]
     changed = []
     for page in PAGES:
         old = page.read_text()
-        new = written(old, kit)
+        new = written(old)
         if new != old:
             changed.append(page.relative_to(TOP))
             if not given.check:

@@ -33,10 +33,10 @@ class Office:
 
     def run(self, *words, text="", status=0):
         """What a command writes, where it ends with that status."""
-        done = subprocess.run([self.program, *map(str, words)], input=text, text=True, cwd=self.folder, stdout=subprocess.PIPE,
+        done = subprocess.run([self.program, *map(str, words)], input=text.encode(), cwd=self.folder, stdout=subprocess.PIPE,
                               stderr=subprocess.PIPE)
         expect(f"status of {words} in {self.folder.name}, after {done.stdout[-80:]!r}", done.returncode, status)
-        return done.stdout
+        return done.stdout.decode()
 
     def copy(self, folder):
         shutil.copytree(self.folder, folder)

@@ -1,13 +1,14 @@
 #!/usr/bin/env python3
-"""Tries each command of a built program, on the example day and on a file with a hundred days.
+"""Tries each command of a built program: rows by hand, the example day, and a file with a hundred days.
 
     python3 trials/try_commands.py PROGRAM
 
-PROGRAM is the executable toll_office. What a command must write is worked out here, from the days themselves, from what
-`examples/plain.c` says of them, which is compiled, and from what the other commands wrote. The example day is kept as day
-100 behind its history, and the hundred days are 100 to 199, each of the same traffic that a seed makes. Last of all the
-list of differences of `audit --show` is compared with one worked out here, over notices that were changed at random. The
-script ends with status 1 at the first difference, and says how many commands it ran.
+PROGRAM is the executable toll_office. The rows stand in `rows_of_commands.py`. What a command must write of the days is
+worked out here, from the days themselves, from what `examples/plain.c` says of them, which is compiled, and from what the
+other commands wrote. The example day is kept as day 100 behind its history, and the hundred days are 100 to 199, each of the
+same traffic that a seed makes. Last of all the list of differences of `audit --show` is compared with one worked out here,
+over notices that were changed at random. The script ends with status 1 at the first difference, and says how many rows and
+commands it ran.
 """
 import collections
 import csv
@@ -20,6 +21,7 @@ import sys
 import tempfile
 
 from office import DATA, Office, compiled, expect
+from rows_of_commands import RELATIONS, TABLES
 
 FIRST, LAST, BASE = 100, 199, 200
 RAN = collections.Counter()
@@ -198,18 +200,54 @@ def hundred(office):
     notices, _ = office.run("answers", BASE, text=day)
     compare(office, BASE, day, notices)
     kept = sum(1 for row in every if int(row[1]) >= BASE - 69 and int(row[3]) > 0)
-    expect("renew", office.run("renew", BASE), ([], f"# renewed base {BASE} rows {kept}"))
+    expect("renew", office.run("renew", BASE), ([], f"# renewed base {BASE} rows {kept} dropped 0"))
     expect("days of a new office", office.run("days"), ([], f"# days 0 last {LAST}"))
     expect("answers as before", office.run("answers", BASE, text=day)[0], notices)
 
 
+def each_row(program, top):
+    """Runs the rows that are told before, each in a folder of its own; answers how many."""
+    count = 0
+    for name, table in TABLES.items():
+        for row, runs in table().items():
+            count += 1
+            office = Office(program, top / f"{name}-{count}")
+            for it in runs:
+                if it.notices is not None:
+                    (office.folder / "notices.txt").write_text(it.notices)
+                RAN[it.words[0] if it.words else ""] += 1
+                expect(f"{row}, by {it.words}", office.run(*it.words, text=it.given, status=it.status), it.text)
+    return count
+
+
+def each_relation(program, top):
+    """Runs the rows that one run tells of another; answers how many."""
+    count = 0
+    for name, relation in RELATIONS.items():
+        office = Office(program, top / name)
+
+        def run(words, given="", notices=None):
+            if notices is not None:
+                (office.folder / "notices.txt").write_text(notices)
+            RAN[words.split()[0]] += 1
+            return office.run(*words.split(), text=given)
+
+        for row, found, wanted in relation(run):
+            count += 1
+            expect(row, found, wanted)
+    return count
+
+
 def main():
-    program = sys.argv[1]
+    if len(sys.argv) != 2:
+        sys.exit(__doc__)
+    program = str(pathlib.Path(sys.argv[1]).resolve())
     with tempfile.TemporaryDirectory() as folder:
         top = pathlib.Path(folder)
+        count = each_row(program, top) + each_relation(program, top)
         example(Tried(program, top / "example"), compiled("plain", top))
         hundred(Tried(program, top / "hundred"))
-    print(f"{sum(RAN.values())} runs of {len(RAN)} commands, as they must be")
+    print(f"{count} rows by hand; {sum(RAN.values())} runs of {len(RAN)} commands, as they must be")
 
 
 if __name__ == "__main__":

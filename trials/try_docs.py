@@ -8,7 +8,7 @@ one shell, in a copy of the repository's example data, documents, scripts and pr
 them on the path. A block ```console has lines `$ command`, each with the lines that it must print; in a block without a name a
 command may be followed by two blanks, `# ` and the one line that it must print, or by a text that says what it does. `..`
 stands for anything. What is run for a command between backticks, behind the blocks of its page, is said by INLINE below, which
-must name each. With --kit the copy is a clone, and the commands of the kit are run too, but for the gate: `rt try`, and
+must name each. With --kit the copy is a clone, and the commands of the kit are run too, but for the gate: tools/unproved.py, and
 tools/build.py, which takes a minute if the kit has kept what it proves, and else up to an hour for each program. The script ends
 with status 1 if a command prints something else, if one whose text is not said ends with a status above 8, or if one is not named.
 """
@@ -27,24 +27,27 @@ from office import TOP, free_port
 
 PAGES = ["README.md", "docs/USE.md", "docs/HTTP.md", "docs/FORMATS.md", "docs/PROOF.md", "docs/RULES.md"]
 MARK = "--- the end of a command ---"
-GATE = "rt ci"
+GATE = ".ci/run"
 FIRST = 'mkdir "$OLD/room" && cp "$OLD"/crates/example_office/data/*.csv "$OLD/room" && cd "$OLD/room"'
 DAY = "# stored day 100 tuples 1137 notices 341 total 16416"
 
 # what a command prints of which the page says only what it does
 PRINTS = {
-    "(cd crates/toll_office && rt try -- answers 100 < ../example_office/data/day.csv)":
-        "..# answered day 100 tuples 1137 notices 341..",
+    "python3 tools/unproved.py toll_office ../unproved": "../unproved/toll_office: built in .. minutes, and NOT PROVED",
     "python3 tools/build.py": "..crates/toll_office/out/toll_office\nproved and built in .. minutes",
 }
 
 # what comes before a page's commands: README shows a run before it says how to build. $OLD is the top of the copy
+OFFICE = 'export PATH="$OLD/crates/toll_office/out:$PATH"'
 BEGIN = {
-    "README.md": [('export PATH="$OLD/crates/toll_office/out:$PATH"', "")],
-    "docs/FORMATS.md": [
-        (FIRST, ""),
-        ('export PATH="$OLD/crates/toll_office/out:$PATH"', ""),
-    ],
+    "README.md": [(FIRST, ""), (OFFICE, "")],
+    "docs/FORMATS.md": [(FIRST, ""), (OFFICE, "")],
+}
+
+# what is run before a command that a page has only once, since its text says where the reader is by then
+BEFORE = {
+    "python3 tools/unproved.py toll_office ../unproved": 'cd "$OLD"',
+    'export PATH="$PWD/crates/toll_office/out:$PATH"': 'cd "$OLD"',
 }
 
 # what is run for a command between backticks, and what that prints; none: it is a form, or stands in a block too
@@ -57,7 +60,7 @@ INLINE = {
     "man -l docs/toll_office.1": [('man -l "$OLD/docs/toll_office.1" | grep -m 1 -c "toll_office import DAY"', "1")],
     "source docs/toll_office.bash": [
         ('source "$OLD/docs/toll_office.bash" && COMP_WORDS=(toll_office va) COMP_CWORD=1', ""),
-        ('_toll_office && echo "${COMPREPLY[@]}"', "validate")],
+        ('_toll_office; echo "${COMPREPLY[@]}"', "validate")],
     "set -o pipefail": [("(set -o pipefail; toll_office export 99 | tail -n 1; echo $?)", "# no day 99\n3")],
     "pv day.csv | toll_office import 100": [
         # (by then the page has begun anew, so this has a folder of its own)
@@ -77,7 +80,7 @@ INLINE = {
         ("cd new && toll_office tariffs && cd ..", "3,40,45,3")],
     "git log": [("git -C \"$SOURCE\" log -1 --format=%ae | grep -c @", "1")],
     "git rev-parse HEAD": [("git -C \"$SOURCE\" rev-parse HEAD | tr -d '\\n' | wc -c", "40")],
-    "curl --data-binary @FILE": None,
+    "curl --data-binary @FILE": None, "cp tolls.db* before": None,
     "head -c": [
         ("toll_office import 100 < day.csv | tail -n 1", DAY),
         ("cat day.csv day.csv > twice_as_long.csv; toll_office import 100 < twice_as_long.csv | cut -d ' ' -f 8 > found", ""),
@@ -123,7 +126,7 @@ def commands(page):
         else:
             for at, line in block:
                 command, _, said = line.partition("  # ")
-                if re.match(r"(toll_|mkdir|export|cd |cp |python3|curl|rt |\()", command):
+                if re.match(r"(toll_|mkdir|export|cd |cp |python3|curl|rt |\.ci/|\()", command):
                     found.append((at, command.strip(), [said] if said.startswith(("#", "{", "total")) else None))
     return [(at, command, PRINTS.get(command) if said is None else "\n".join(said).rstrip("\n")) for at, command, said in found]
 
@@ -185,13 +188,18 @@ class Shell:
 
 
 def needs_kit(command):
-    return re.search(r"(^|[( ;&])rt |tools/build\.py", command) is not None
+    return re.search(r"(^|[( ;&])rt |tools/(build|unproved)\.py|^\.ci/run", command) is not None
 
 
 def passed_over(command, given):
-    """Whether a command needs what is not there: the kit, hours, or the server."""
+    """Whether a command needs what is not there: a tool, the kit, hours, or the server."""
+    if command.startswith("git -C") and not (TOP / ".git").exists():
+        return True
+    tools = re.findall(r"(?:^|[|;&(] ?)(rt|man|sqlite3|git|curl)(?= )", command)
+    if any(not shutil.which(it) for it in tools):
+        return True
     if command.startswith("rt version"):
-        return not shutil.which("rt")
+        return False
     if needs_kit(command):
         return not given.kit or command.startswith(GATE)
     return not (given.serve or given.kit) and re.search(r"toll_serve 0|out/toll_serve|curl", command) is not None
@@ -217,6 +225,7 @@ def tried(page, name, given):
                 print(f"{page.name}:{at}: not run: {command}")
                 continue
             run += 1
+            shell.run(BEFORE.get(command, ":"), 60)
             text, status = shell.run(command.replace("8080", port), 14400 if needs_kit(command) else 300)
             if given.loud:
                 print(f"{page.name}:{at}: {command}\n{text}")

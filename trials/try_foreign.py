@@ -41,9 +41,9 @@ COMMANDS = {
     "audit 100": LINE,
     "days": "",
     "charges 1 100": "",
-    "renew 200": "",
+    "renew 101": "",
 }
-PUTS = ("tariff 0 50 40 5", "import 101", "renew 200")
+PUTS = ("tariff 0 50 40 5", "import 101", "renew 101")
 OF_A_DAY = ("day 100", "export 100", "import 100", "days")
 OF_TARIFFS = ("tariffs", "answers 100", "validate 100", "audit 100")
 OF_A_HISTORY = ("past 100", "import 100", "days")

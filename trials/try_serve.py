@@ -2,18 +2,22 @@
 """Tries the server as a new user would, and prints what was seen.
 
     python3 trials/try_serve.py PROGRAM [--lines 100000] [--beside 1000000] [--asks 1000] [--folder DAYS]
+    python3 trials/try_serve.py PROGRAM --short
 
-PROGRAM is the executable `toll_serve`. The server runs in a new folder, on a free port of this machine. Asked are: every
-path and every refusal, with the whole answer; the notices of a day that `curl` sends slowly; a day of several expressways, whose amounts are those of `plain.c`; refused requests with bodies that nobody reads; requests as a page of the web
-sends them; a day of so many lines, posted while four clients read the live board; so many kept days one after another; a
-slow client and a silent one beside three that work; a thousand silent ones, and fifty whose heads come a byte a second; more
-connections than there are file handles; 200 faults of accept, and threads that cannot be had; POSTs in line behind one, of
-which some clients leave; a day of so many lines again, posted beside a thousand silent clients and ten POSTs in line, while
-others ask for live totals and kept amounts; a POST of a passed day and one of a refused day, whose bodies of some MB come slowly, and
-a client that does not take its answer, beside the next POST; clients that are answered and go on sending; a POST whose body comes a byte a second,
-and one whose body is held back, beside clients that ask for what is kept; clients that vanish; a kill -9 at moments of a POST. The
-server then ends by its sessions, and Python's `sqlite3` reads what it kept. The script ends with status 1 at the first answer
-that is not the expected one, or that comes late. The faults of accept are made by `trials/fail_accept.c`, built by `cc`.
+PROGRAM is the executable `toll_serve`. The server runs in a new folder, on a free port of this machine. Asked are: every path
+and every refusal, with the whole answer; the notices of a day that `curl` sends slowly; a day of several expressways, whose
+amounts are those of `plain.c`; refused requests with bodies that nobody reads; requests as a page of the web sends them; a day
+of so many lines, posted while four clients read the live board; so many kept days one after another; a slow client and a
+silent one beside three that work; six hundred silent ones, and fifty whose heads come a byte a second; more connections than
+there are file handles; 200 faults of accept, and threads that cannot be had; POSTs in line behind one, of which some clients
+leave; a day of so many lines again, posted beside 650 silent clients and ten POSTs in line, while others ask for live
+totals and kept amounts; a POST of a passed day and one of a refused day, whose bodies of some MB come slowly, and a client
+that does not take its answer, beside the next POST; clients that are answered and go on sending; a POST whose body comes a
+byte a second, and one whose body is held back, beside clients that ask for what is kept; clients that vanish; a kill -9 at
+moments of a POST. The server then ends by its sessions, and Python's `sqlite3` reads what it kept. The script ends with status
+1 at the first answer that is not the expected one, or that comes late. The faults of accept are made by
+`trials/fail_accept.c`, built by `cc`. With --short what takes long is left out: several expressways, crowds of silent clients,
+faults of accept, POSTs in line, slow clients.
 """
 import argparse
 import http.client
@@ -25,6 +29,7 @@ import shutil
 import socket
 import sqlite3
 import statistics
+import struct
 import subprocess
 import sys
 import tempfile
@@ -44,7 +49,7 @@ SILENCE = 30
 AT_ONCE = 1.0
 REFUSED_BODY = 5_000_000
 HEAD_SECONDS = 10
-SILENT = 1000
+SILENT = 650
 TRICKLING = 50
 FEW_HANDLES = 40
 KILLS = 50
@@ -127,14 +132,24 @@ class Server:
         return answer.status, answer.reason, text.decode()
 
     def end(self):
-        """Uses up the connections that are left, by requests that are none, and waits for the end."""
-        while self.left > 0:
-            with self.connect() as wire:
-                wire.sendall(b"\0")
-                wire.shutdown(socket.SHUT_WR)
-                all_of(wire)
+        """Uses up the sessions that are left, by requests that are none, and waits for the end. Connections without a whole head
+        took none."""
+        while self.child.poll() is None:
+            try:
+                with socket.create_connection(("127.0.0.1", self.port), timeout=5) as wire:
+                    wire.sendall(b"\0")
+                    wire.shutdown(socket.SHUT_WR)
+                    all_of(wire)
+            except OSError:
+                time.sleep(0.01)
         out, err = self.child.communicate(timeout=60)
         return self.child.returncode, out + err
+
+
+def reset(wire):
+    """Ends a connection by a reset."""
+    wire.setsockopt(socket.SOL_SOCKET, socket.SO_LINGER, struct.pack("ii", 1, 0))
+    wire.close()
 
 
 def all_of(wire):
@@ -167,7 +182,7 @@ FOREIGN = (403, "Forbidden", '{"error":"origin"}')
 
 def try_bodies(program, folder):
     """Refused requests whose bodies nobody reads, and a body that waits for `100 Continue`: each sees its status."""
-    server = Server(program, folder, 60)
+    server = Server(program, folder, 100)
     body = b"a" * REFUSED_BODY
     head = f"Content-Length: {len(body)}\r\n\r\n".encode()
     refused = [
@@ -189,13 +204,34 @@ def try_bodies(program, folder):
         lines = LATE + b"\n" * 1_500_000
         expect("curl with Expect", server.curl("POST", "/days/100", lines)[0], 422)
         curled = 1
-    for field in ("Host: desk.example", "Origin: null", "Host: localhost\r\nOrigin: http://localhost"):
+    for field in ("Host: desk.example", "Origin: null", "Host: localhost\r\nOrigin: http://localhost",
+                  "Host: localhost\r\nHost: desk.example", "Host: desk.example\r\nHost: localhost",
+                  "Sec-Fetch-Site: cross-site", "Sec-Fetch-Site: same-site"):
         sent = f"POST /days/100 HTTP/1.1\r\n{field}\r\nContent-Length: 0\r\n\r\n".encode()
         expect(f"a page's request with {field}", server.raw(sent), answer_bytes(*FOREIGN))
     expect("a day that a page posted", server.ask("GET", "/days/100")[0], 404)
+    for site, status in (("cross-site", b"403"), ("same-site", b"403"), ("none", b"200"), ("same-origin", b"200")):
+        for path in ("/", "/days", "/live"):
+            sent = f"GET {path} HTTP/1.1\r\nHost: 127.0.0.1\r\nSec-Fetch-Site: {site}\r\n\r\n".encode()
+            expect(f"GET {path} of a page, {site}", server.raw(sent).split(b" ")[1], status)
+    head = server.raw(b"GET / HTTP/1.1\r\n\r\n").split(b"\r\n\r\n")[0].split(b"\r\n")
+    for field in (b"X-Frame-Options: DENY", b"X-Content-Type-Options: nosniff", b"Cache-Control: no-store"):
+        expect(f"the page's {field}", field in head, True)
+    seen = [first_sends(server, "DELETE", "/days/100", body) for _ in range(20)]
+    expect("who sends 5 MB and reads only then", seen, [405] * 20)
     expect("the end", server.end(), (0, b""))
     print(f"{len(refused) * 4} requests with a body that nobody reads: each saw its status; {curled} body of curl with Expect;"
-          " three requests as a page sends them: 403, nothing stored")
+          " seven requests as a page sends them: 403, nothing stored; twenty that send all before they read saw theirs")
+
+
+def first_sends(server, method, path, body):
+    """The status of a request whose client sends all of its body before it reads."""
+    asked = http.client.HTTPConnection("127.0.0.1", server.port)
+    asked.sock = server.connect()
+    asked.request(method, path, body)
+    status = asked.getresponse().status
+    asked.close()
+    return status
 
 
 def push(wire, sent):
@@ -572,7 +608,7 @@ class Trickler(threading.Thread):
 
 
 def try_silent(program, folder):
-    """A thousand clients that connect and are silent, and fifty that send a byte a second, beside one that asks."""
+    """650 clients that connect and are silent, and fifty that send a byte a second, beside one that asks."""
     hard = resource.getrlimit(resource.RLIMIT_NOFILE)[1]
     resource.setrlimit(resource.RLIMIT_NOFILE, (min(4096, hard), hard))
     server = Server(program, folder, 2_500)
@@ -628,8 +664,9 @@ def try_handles(program, folder):
 
 
 def try_line(program, folder):
-    """One reader: ten POSTs wait behind one whose body is held back, beside clients that ask. Of two more in line the clients
-    vanish, one with its whole day sent: nothing of theirs is kept. Those that are refused at once do not wait."""
+    """One reader: ten POSTs wait behind one whose body is held back, beside clients that ask. Two more in line are reset, one with
+    its whole day sent: nothing of theirs is kept. One that ends what it sends is served. Those that are refused at once do not wait,
+    and those whose heads do not end are let go after their 10 seconds."""
     server = Server(program, folder, 3_000, readers=1)
     expect("the first day", server.ask("POST", "/days/100", b"")[0], 200)
     wire = server.connect()
@@ -638,16 +675,27 @@ def try_line(program, folder):
     line = [Posts(server, 99) for _ in range(10)]
     for post in line:
         post.start()
-    for whole in (b"POST /days/102 HTTP/1.1\r\nContent-Length: 0\r\n\r\n", b"POST /days/102 HTTP/1.1\r\nContent-Length: 9\r\n\r\n"):
+    for whole in (b"POST /days/103 HTTP/1.1\r\nContent-Length: 0\r\n\r\n", b"POST /days/103 HTTP/1.1\r\nContent-Length: 9\r\n\r\n"):
         each = server.connect()
         each.sendall(whole)
-        each.close()
+        reset(each)
+    ended = server.connect()
+    ended.sendall(b"POST /days/98 HTTP/1.1\r\nContent-Length: 0\r\n\r\n")
+    ended.shutdown(socket.SHUT_WR)
     begin = time.monotonic()
     expect("a POST to no path beside the line", server.ask("POST", "/nothing", b"")[0], 404)
     expect("a POST to a live path beside the line", server.ask("POST", "/live", b"")[0], 405)
     if time.monotonic() - begin > AT_ONCE:
         fail("POSTs that are refused at once waited in line")
+    began = time.monotonic()
+    begun = [server.connect(SILENCE) for _ in range(20)]
+    for each in begun:
+        each.sendall(b"POST /days/9")
     answers, most = slowest(work(server, ["/live", "/days/100", "/spent/100/0/1"], 3))
+    expect("POSTs whose heads do not end, beside one that is held back", [all_of(each) for each in begun], [b""] * len(begun))
+    let_go = time.monotonic() - began
+    if let_go > HEAD_SECONDS + 2:
+        fail(f"POSTs whose heads do not end were let go after {let_go:.1f} s")
     wire.sendall(LATE[-1:])
     expect("the POST that was held", all_of(wire).split(b"\r\n")[0], b"HTTP/1.1 422 Unprocessable Entity")
     wire.close()
@@ -658,9 +706,11 @@ def try_line(program, folder):
     if lasted > 0.5:
         fail(f"ten POSTs in line took {lasted:.2f} s after the one before them")
     expect("the POSTs in line", {post.answer for post in line}, {(409, "Conflict", '{"error":"passed","last":100}')})
-    expect("the day of those that vanished", server.ask("GET", "/days/102")[0], 404)
+    expect("the POST in line that has ended what it sends", all_of(ended), passed_by(100))
+    ended.close()
+    expect("the day of those that were reset", server.ask("GET", "/days/103")[0], 404)
     print(f"one reader, a POST that is held back and ten behind it: {answers} answers meanwhile, the slowest {most:.1f} ms;"
-          f" the ten were answered within {lasted * 1000:.0f} ms after it; what two sent that vanished in line is not kept")
+          f" twenty whose heads do not end were let go within {let_go:.1f} s; the ten were answered within {lasted * 1000:.0f} ms after it; one whose client had ended what it sends was answered too, and what two sent that were reset is not kept")
     server.end()
 
 
@@ -675,7 +725,7 @@ def slow_post(server, day, begins):
 
 def try_passed(program, folder):
     """A passed day and a refused one whose bodies of some MB come slowly, and a client that does not take its answer: the next POST
-    does not wait for them. One more keeps all the acceptors that POSTs may keep: who asks is answered, and a further POST waits."""
+    does not wait for them. Two more keep all the acceptors that POSTs may keep: who asks is answered, and a further POST waits."""
     server = Server(program, folder, 3_000)
     expect("the first day", server.ask("POST", "/days/100", b"")[0], 200)
     slow = [slow_post(server, 99, b""), slow_post(server, 101, LATE)]
@@ -691,7 +741,7 @@ def try_passed(program, folder):
     expect("the next POST", (status, json.loads(text)["outcome"]), (200, "stored"))
     if took > AT_ONCE:
         fail(f"the next POST was answered after {took:.2f} s, while bodies came that are not used")
-    slow.append(slow_post(server, 97, b""))
+    slow += [slow_post(server, 97, b""), slow_post(server, 95, b"")]
     last = Posts(server, 96)
     last.start()
     answers, most = slowest(work(server, ["/live", "/days/102", "/spent/102/0/100"], 2))
@@ -701,13 +751,13 @@ def try_passed(program, folder):
     taken = [all_of(wire) for wire, _ in slow]
     last.join()
     refused = answer_bytes(422, "Unprocessable Entity", '{"cause":"late 10 9","error":"refused","line":3}')
-    expect("the slow ones", taken, [passed_by(100), refused, passed_by(102)])
+    expect("the slow ones", taken, [passed_by(100), refused, passed_by(102), passed_by(102)])
     expect("the one behind them", last.answer, (409, "Conflict", '{"error":"passed","last":102}'))
     for wire, _ in slow:
         wire.close()
     untaken.close()
     print(f"a passed and a refused day of {REFUSED_BODY / 1e6:.0f} MB that come slowly, and an answer that is not taken: the next POST was"
-          f" answered within {took * 1000:.0f} ms; with one slow day more {answers} answers to others, the slowest {most:.1f} ms, while a"
+          f" answered within {took * 1000:.0f} ms; with two slow days more {answers} answers to others, the slowest {most:.1f} ms, while a"
           " further POST waited; all were answered at the end")
     server.end()
 
@@ -739,7 +789,7 @@ class Asker(threading.Thread):
 
 
 def try_beside(program, folder, path):
-    """A thousand silent clients and ten POSTs in line beside a POST of a whole day: live totals and kept amounts at once."""
+    """650 silent clients and ten POSTs in line beside a POST of a whole day: live totals and kept amounts at once."""
     lines = lines_in(path)
     server = Server(program, folder, 5_000)
     expect("the first day", server.ask("POST", "/days/100", charged_day())[0], 200)
@@ -773,6 +823,148 @@ def try_beside(program, folder, path):
     print(f"{SILENT} silent clients and ten POSTs in line beside a POST of {lines} lines, which took {took:.2f} s: {SILENT} live totals,"
           f" 99th percentile {live * 1000:.1f} ms, and {SILENT} kept amounts, {kept * 1000:.1f} ms, within {asked:.2f} s; nothing is lost")
     server.end()
+
+
+def live_beside(server, what):
+    """How long 99 of 100 live totals take at most beside something, in milliseconds; no more than 50."""
+    asker = Asker(server, "/live", 300)
+    asker.start()
+    asker.join()
+    expect(f"live totals beside {what}", asker.error, None)
+    most = percentile(asker.took)
+    if most > AT_MOST:
+        fail(f"beside {what} the 99th percentile of live totals is {most * 1000:.1f} ms")
+    return most * 1000
+
+
+def try_full(program, folder):
+    """A POST whose body is held back, and 1,024 clients that send `POST /days/9` and are silent; then 1,014 that send nothing, under
+    1,024 file handles: who asks is answered, also of what is kept."""
+    hard = resource.getrlimit(resource.RLIMIT_NOFILE)[1]
+    resource.setrlimit(resource.RLIMIT_NOFILE, (min(4096, hard), hard))
+    server = Server(program, folder, 5_000, handles=1024)
+    wire = server.connect(SILENCE * 3)
+    wire.sendall(b"POST /days/101 HTTP/1.1\r\nContent-Length: %d\r\n\r\n" % len(LATE) + LATE[:-1])
+    begun = [server.connect() for _ in range(1024)]
+    for each in begun:
+        each.sendall(b"POST /days/9")
+    posts = live_beside(server, "heads that do not end")
+    for each in begun:
+        each.close()
+    silent = [server.connect() for _ in range(1014)]
+    nothing = live_beside(server, "silent clients")
+    expect("a day beside silent clients", server.ask("GET", "/days/100"), (404, "Not Found", '{"error":"no day"}'))
+    for each in silent:
+        each.close()
+    wire.sendall(LATE[-1:])
+    expect("the POST that was held", all_of(wire).split(b"\r\n")[0], b"HTTP/1.1 422 Unprocessable Entity")
+    wire.close()
+    server.end()
+    print(f"1,024 clients of `POST /days/9` beside a POST that is held back: 99th percentile of live totals {posts:.1f} ms;"
+          f" 1,014 silent ones, with 1,024 file handles: {nothing:.1f} ms, and a day is looked for")
+
+
+def try_reads(program, folder, path):
+    """Three bodies of a passed day that come slowly, and six clients that ask for kept days and lists over and over, while a day is
+    read and stored: who asks for the live total waits for none of them. What is left of the slow bodies has 30 seconds in all."""
+    server = Server(program, folder, 2_000_000)
+    expect("the first day", server.ask("POST", "/days/100", charged_day())[0], 200)
+    slow = [slow_post(server, 99, b"") for _ in range(3)]
+    begin = time.monotonic()
+    stop = threading.Event()
+    tricklers = [threading.Thread(target=drip, args=(wire, stop), daemon=True) for wire, _ in slow]
+    answers = []
+    with open(path, "rb") as body:
+        posting = threading.Thread(target=post_quietly, args=(server, body.read(), answers))
+    readers = [Reader(server, "/days/100" if at % 2 else "/days", posting) for at in range(6)]
+    for each in tricklers + [posting] + readers:
+        each.start()
+    took = []
+    while posting.is_alive():
+        asked = time.monotonic()
+        expect("GET /live while a day is stored", server.ask("GET", "/live")[0], 200)
+        took.append(time.monotonic() - asked)
+        time.sleep(0.002)
+    posted = time.monotonic() - begin
+    for reader in readers:
+        reader.join()
+    expect("those who ask for what is kept", [reader.error for reader in readers if reader.error], [])
+    expect("the POST beside three slow bodies", answers, [200])
+    if percentile(took) > AT_MOST:
+        fail(f"while a day is stored the 99th percentile of live totals is {percentile(took) * 1000:.1f} ms")
+    expect("what nobody uses and comes slowly", [rest_of(wire) for wire, _ in slow], [b""] * 3)
+    let_go = time.monotonic() - begin
+    stop.set()
+    if not 25 < let_go < 45:
+        fail(f"bodies that nobody uses were let go after {let_go:.1f} s")
+    waited = max(reader.most for reader in readers)
+    print(f"three slow bodies of a passed day and six who ask for what is kept beside a POST of {posted:.1f} s: {len(took)} live totals,"
+          f" 99th percentile {percentile(took) * 1000:.1f} ms; those who ask waited {waited * 1000:.0f} ms at most; the bodies were let go after {let_go:.0f} s")
+    server.child.kill()
+    server.child.wait()
+
+
+def drip(wire, stop):
+    """Sends 4 KB a second until it is let go."""
+    try:
+        while not stop.is_set():
+            wire.sendall(b"a" * 4096)
+            time.sleep(1)
+    except OSError:
+        pass
+
+
+class Reader(threading.Thread):
+    """Asks for a path over and over while another thread goes on, and notes the longest answer."""
+
+    def __init__(self, server, path, other):
+        super().__init__()
+        self.server, self.path, self.other, self.most, self.error = server, path, other, 0.0, None
+
+    def run(self):
+        try:
+            while True:
+                begin = time.monotonic()
+                expect(f"GET {self.path} while a day is stored", self.server.ask("GET", self.path)[0], 200)
+                self.most = max(self.most, time.monotonic() - begin)
+                if not self.other.is_alive():
+                    return
+        except (OSError, SystemExit, http.client.HTTPException) as error:
+            self.error = repr(error)
+
+
+def try_checks(program, folder):
+    """Connections that send no whole head are no sessions."""
+    server = Server(program, folder, 3)
+    for sent in (b"", b"", b"GET", b"GET /live HTTP/1.1\r\n", b"\r\n"):
+        expect(f"a connection of {sent}", server.raw(sent), b"")
+    expect("the server behind checks of its port", server.child.poll(), None)
+    for _ in range(3):
+        expect("GET /live behind checks", server.ask("GET", "/live")[0], 200)
+    expect("the end", server.child.wait(timeout=30), 0)
+    print("five connections without a whole head are no sessions: the server ended behind three requests")
+
+
+def try_marks(program, folder):
+    """A day of 20,000 lines that comes over some seconds: its mark moves on each 4,096 tuples."""
+    server = Server(program, folder, 100_000)
+    lines = b"".join(report([(at // 500, at, 30, 0, 10, 52800)]) for at in range(20_000))
+    wire = server.connect(SILENCE * 3)
+    wire.sendall(b"POST /days/100 HTTP/1.1\r\nContent-Length: %d\r\n\r\n" % len(lines))
+    marks = set()
+    for at in range(0, len(lines), 20_000):
+        wire.sendall(lines[at:at + 20_000])
+        time.sleep(0.1)
+        marks.add(json.loads(server.ask("GET", "/live")[2])["as_of"])
+    expect("the POST that comes over some seconds", all_of(wire).split(b" ")[1], b"200")
+    wire.close()
+    between = sorted(mark for mark in marks if 0 < mark < 20_000)
+    expect("marks that are no rounds", [mark for mark in between if mark % 4096], [])
+    if len(between) < 4:
+        fail(f"the mark of a day that comes slowly was at {sorted(marks)} alone")
+    server.child.kill()
+    server.child.wait()
+    print(f"a day of 20,000 lines over some seconds: its mark was seen at {', '.join(map(str, between))}")
 
 
 def shim():
@@ -835,7 +1027,7 @@ def try_drains(program, folder):
             gone += 1
         wire.close()
     expect("clients that stayed and were let go after two seconds", gone, len(held))
-    print(f"{len(held)} clients that are answered and stay: {answers} answers over two acceptors meanwhile, the slowest {most:.1f} ms;"
+    print(f"{len(held)} clients that are answered and stay: {answers} answers meanwhile, the slowest {most:.1f} ms;"
           " each was let go")
     server.end()
 
@@ -881,6 +1073,14 @@ def try_kept(folder, day):
     print(f"sqlite3 reads a copy of tolls.db without its log: three days, {rows} amounts, the day's sum is its total")
 
 
+def in_a_folder(attempt, program, *given):
+    """Makes an attempt in a new folder, and says how long it took."""
+    began, own = time.monotonic(), tempfile.mkdtemp()
+    attempt(program, own, *given)
+    shutil.rmtree(own)
+    print(f"{attempt.__name__}: {time.monotonic() - began:.1f} s", flush=True)
+
+
 def main():
     words = argparse.ArgumentParser(description=__doc__, formatter_class=argparse.RawDescriptionHelpFormatter)
     words.add_argument("program", type=pathlib.Path)
@@ -889,27 +1089,27 @@ def main():
     words.add_argument("--asks", type=int, default=1000)
     words.add_argument("--kills", type=int, default=KILLS)
     words.add_argument("--folder", type=pathlib.Path, default=pathlib.Path(tempfile.gettempdir()) / "days")
+    words.add_argument("--short", action="store_true")
     given = words.parse_args()
+    if given.short:
+        given.lines, given.asks, given.kills = 10_000, 100, 5
     given.folder.mkdir(parents=True, exist_ok=True)
     program = str(given.program.resolve())
-    path = make_day(given.folder, str(given.lines))
     folder = tempfile.mkdtemp()
     try_words(program)
     try_answers(program, folder)
-    own = tempfile.mkdtemp()
-    try_bodies(program, own)
-    shutil.rmtree(own)
-    for attempt in (try_stream, try_ways, try_silent, try_handles, try_faults, try_threads, try_drains, try_line, try_passed):
-        own = tempfile.mkdtemp()
-        attempt(program, own)
-        shutil.rmtree(own)
-    own = tempfile.mkdtemp()
-    try_beside(program, own, make_day(given.folder, str(given.beside)))
-    shutil.rmtree(own)
+    attempts = [try_bodies, try_stream, try_handles, try_threads, try_drains, try_passed, try_checks, try_marks]
+    for attempt in attempts if given.short else attempts + [try_ways, try_silent, try_faults, try_line, try_full]:
+        in_a_folder(attempt, program)
+    if not given.short:
+        in_a_folder(try_beside, program, make_day(given.folder, str(given.beside)))
+        in_a_folder(try_reads, program, make_day(given.folder, str(given.beside)))
+    path = make_day(given.folder, str(given.lines))
     try_kills(program, path, given.kills)
     server, day = try_day(program, folder, path)
     try_asks(server, given.asks)
-    try_slow(server)
+    if not given.short:
+        try_slow(server)
     expect("the end", server.end(), (0, b""))
     try_kept(folder, day)
     shutil.rmtree(folder)

@@ -1,7 +1,7 @@
 // The program's commands, by `office`, on the example day and on the worked rows of kept state: over a keeper in
 // memory, over a keeper whose tables lie in memory, and over a keeper in a file that is opened anew for each command,
-// each job in a thread of its own. Behind each command's text stands its status. Last comes an import over a file,
-// whose reads fail in turn.
+// by a crew of threads. Behind each command's text stands its status. Last comes an import over a file, whose reads
+// fail in turn.
 ghost use Rattle.road_time.specs.Fits.{IsLimits};
 
 mod steps;
@@ -31,7 +31,7 @@ fn words_of(rt: HostRuntime, command: &str) -> anyhow::Result<Vec<String>> {
     Ok(words)
 }
 
-/// The status of a command over a keeper, its output into a sink, each job in a thread of its own.
+/// The status of a command over a keeper, by a crew of threads, its output into a sink.
 fn answer<R: Threads + Sync + Copy, S: Source, K: Keeper>(
     rt: HostRuntime,
     threads: R,

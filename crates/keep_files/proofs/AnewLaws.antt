@@ -10,7 +10,7 @@ use Rattle.keep_trees.specs.declared.page_trees.PageTrees.{PageTrees}
 use Rattle.keep_database.specs.declared.proved.ProvedKeeper.{ProvedKeeper}
 use Rattle.keep_files.specs.declared.cause.Cause.{Cause}
 use Rattle.keep_files.specs.declared.kept.Kept.{Kept}
-use Rattle.keep_files.specs.Anew.{IsToldAnew, IsAskedAnew, IsAnewByTrees, AskedAnew, IsForeign}
+use Rattle.keep_files.specs.Anew.{IsToldAnew, IsAskedAnew, IsAnewByTrees, AnewReady, IsForeign}
 use Rattle.keep_files.specs.declared.cause.Cause.TheVariants.{NotOurs}
 use Rattle.keep_files.specs.Causes.{cause_in_store}
 use Rattle.keep_files.specs.Asked.{HoldsFound, store_fault}
@@ -100,7 +100,7 @@ module _ {P S : Type 0} (p : PagesGhosts P) (g : Ghosts S) (gives : Opening P S 
   -- it was put by trees that came of the file
   pub anew_by_trees : (trees : PageTrees P) → OfFile g gives PutsNothing path old (AsTrees trees)
       → IsAnewByTrees p g gives refuses foreign see trees path held said result
-      → AskedAnew p g gives refuses foreign see old path held said result
+      → AnewReady p g gives refuses foreign see old path held said result
   anew_by_trees trees came put =
       anew_so p g gives refuses foreign see path held said result
       (Comes g gives PutsNothing (λ part. part ≡ AsTrees trees)) (OfFile g gives PutsNothing path old)

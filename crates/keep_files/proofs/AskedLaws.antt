@@ -17,7 +17,7 @@ use Rattle.keep_files.specs.declared.kept.Kept.TheVariants.{Trees, Whole}
 use Rattle.keep_files.specs.Causes.{cause_in_store}
 use Rattle.keep_files.specs.Asked.{store_fault, IsToldOf}
 use Rattle.keep_files.specs.Asked.{IsReady, IsReadyToRead, IsNotWhole, IsPut, IsPutBy, IsPutOver}
-use Rattle.keep_files.specs.Asked.{IsAskedToPut, IsPutByTrees, AskedToPut, IsReadyOf, IsUnreadOf, IsToldAs}
+use Rattle.keep_files.specs.Asked.{IsAskedToPut, IsPutByTrees, PutsReady, IsReadyOf, IsUnreadOf, IsToldAs}
 use Rattle.keep_files.specs.Asked.{HoldsFound, Misfits}
 use Rattle.keep_files.specs.Openings.{Opening, Part, AsTrees, AsStore, AsWhole, IsAdopted, NotOpened}
 use Rattle.keep_files.specs.Openings.{WasUnopened, IsUnput, IsToldBy, IfWhole}
@@ -199,7 +199,7 @@ module _ {P S : Type 0} (p : PagesGhosts P) (g : Ghosts S) (gives : Opening P S 
   -- it was made of the keeper that was ready
   pub asked_whole : (keeper : ProvedKeeper S) → IsReadyOf g gives p path old (Whole keeper)
       → IsPutBy g writes asks next held said result (λ k. k ≡ keeper)
-      → AskedToPut p g gives refuses see writes asks next old path held said result
+      → PutsReady p g gives refuses see writes asks next old path held said result
   asked_whole keeper ready made =
       let puts = Misfits see in
       let opened = AdoptedOf g (OfFile g gives PutsNothing path old) in
@@ -212,7 +212,7 @@ module _ {P S : Type 0} (p : PagesGhosts P) (g : Ghosts S) (gives : Opening P S 
 
   -- nothing was ready
   pub asked_unread : (why : Cause) → old ≡ None → held ≡ None → IsUnreadOf g gives refuses path old why
-      → IsToldBy said result why → AskedToPut p g gives refuses see writes asks next old path held said result
+      → IsToldBy said result why → PutsReady p g gives refuses see writes asks next old path held said result
   asked_unread why was none unread told =
       let puts = Misfits see in
       inr (
@@ -233,7 +233,7 @@ module _ {P S : Type 0} (p : PagesGhosts P) (g : Ghosts S) (gives : Opening P S 
   -- it was made by the trees that were ready
   pub asked_by_trees : (trees : PageTrees P) → IsReadyOf g gives p path old (Trees trees)
       → IsPutByTrees p g gives refuses see writes asks next trees path held said result
-      → AskedToPut p g gives refuses see writes asks next old path held said result
+      → PutsReady p g gives refuses see writes asks next old path held said result
   asked_by_trees trees ready put =
       let puts = Misfits see in
       put_ready p g gives refuses see writes asks next path held said result

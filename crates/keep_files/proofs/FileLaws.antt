@@ -1,12 +1,10 @@
 -- What a store of files gives where something is opened.
-use Rattle.std.proofs.Common.{◌≡◌, ◌≤◌, ℕ, List, Option, None, Some, Result, Ok, Err, IfOk, IfSome, IsTrue}
-use Rattle.std.proofs.Common.{sym, subst, ap, ◌∙◌, arith}
+use Rattle.std.proofs.Common.{◌≡◌, ℕ, List, Option, None, Some, Result, Ok, Err, IfOk, IfSome}
+use Rattle.std.proofs.Common.{sym, subst, ap, ◌∙◌}
 use Rattle.sqlite_disk.specs.declared.Disk.{Ghosts}
 use Rattle.sqlite_disk.specs.declared.Files.{Files}
 use Rattle.sqlite_wal.specs.Recovery.{Image}
 use Rattle.sqlite_wal.specs.Files.{seen_image}
-use Rattle.sqlite_pages.specs.Outcome.{doubt}
-use Rattle.sqlite_pages.proofs.Doubt.{clean_of}
 use Rattle.sqlite_pool.specs.declared.pool.Pool.{Pool}
 use Rattle.sqlite_pool.specs.File.{in_use}
 use Rattle.sqlite_pool.specs.Pool as pool
@@ -51,20 +49,14 @@ some_of_stored g reaches files part it closed (Some x) h = (files, closed, h)
 some_of_stored g reaches files part it closed None h = tt
 
 module _ {D : Type 0} {g : Ghosts D} where
-  -- pages that show more of the same show what the files recover to
-  pub shows_later : (seen read : Image) (before after : Pool D g) → seen ≡ read
-      → (pool.state after).page_size ≡ (pool.state before).page_size
-      → doubt (pool.state before).is_clean ≤ doubt (pool.state after).is_clean → pool.usable after ≡ pool.usable before
-      → (IsTrue (pool.state before).is_clean → Shows seen before)
-      → doubt (pool.state after).is_clean ≡ 0 → Shows read after
-  shows_later seen read before after is size clean same shows sure =
-      let h = shows (clean_of (pool.state before).is_clean (omega (arith, clean, sure))) in
-      record {
-        pages = h.pages;
-        found =
-            subst (λ (n : ℕ). Recovers n read h.pages) (sym size)
-            (subst (λ (i : Image). Recovers (pool.state before).page_size i h.pages) is h.found);
-        shown =
-            same
-            ∙ subst (λ (n : ℕ). pool.usable before ≡ in_use n h.pages) (sym size) h.shown;
-      }
+  -- pages that show the same as others show what the files recover to
+  pub shows_on : (seen read : Image) (before after : Pool D g) → seen ≡ read
+      → (pool.state after).page_size ≡ (pool.state before).page_size → pool.usable after ≡ pool.usable before
+      → Shows seen before → Shows read after
+  shows_on seen read before after is size same h = record {
+    pages = h.pages;
+    found =
+        subst (λ (n : ℕ). Recovers n read h.pages) (sym size)
+        (subst (λ (i : Image). Recovers (pool.state before).page_size i h.pages) is h.found);
+    shown = same ∙ subst (λ (n : ℕ). pool.usable before ≡ in_use n h.pages) (sym size) h.shown;
+  }

@@ -18,7 +18,7 @@ module _ {D X : Type 0} (g : Ghosts D) (reaches : List ℕ → Files D → Type 
   pub refused_alone : SeenMayStay g → (r : Result X Cause) → IfErr r (AreRefused g files)
       → IfErr r (RefusesFiles g draws files)
   refused_alone stays (Ok x) h = tt
-  refused_alone stays (Err cause) h = inr (files, left_alone g stays files, h)
+  refused_alone stays (Err cause) h = inr (inr (files, left_alone g stays files, h))
 
   -- so were files that the disk gave for a path
   pub refused_path : (path : List ℕ) → reaches path files → (r : Result X Cause)

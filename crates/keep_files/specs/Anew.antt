@@ -9,10 +9,12 @@ use Rattle.keep_database.specs.declared.proved.ProvedKeeper.{ProvedKeeper}
 use Rattle.keep_files.specs.declared.cause.Cause.{Cause}
 use Rattle.keep_files.specs.declared.cause.Cause.TheVariants.{NotOurs}
 use Rattle.keep_files.specs.declared.kept.Kept.{Kept}
+use Rattle.keep_files.specs.declared.place.Places.{Places}
 use Rattle.keep_files.specs.Openings.{Opening, Part, AsTrees, AsStore, NotOpened, IsOpeningOf}
 use Rattle.keep_files.specs.Openings.{WasUnopened, IsNotAnew, IsToldBy}
 use Rattle.keep_files.specs.Origins.{Comes, OfFile, PutsNothing, FoundAgain}
 use Rattle.keep_files.specs.Asked.{HoldsFound, IsToldOf}
+use Rattle.keep_files.specs.Places.{IsPutThere, LooksFirst}
 
 -- the answer is that of the store; where that does not have our trees, it is refused
 abbrev pub IsToldAnew : Option Cause → Result Bool StoreError → Result (Unit {0}) KeepFault → Type 0
@@ -53,7 +55,18 @@ module _ {P S : Type 0} (p : PagesGhosts P) (g : Ghosts S) (gives : Opening P S 
       IsAskedAnew path held said result (Comes g gives PutsNothing (λ part. part ≡ AsTrees trees))
 
   -- it came of the file at the path, or of what was held of it
-  abbrev pub AskedAnew : Option (Kept (PageTrees P) (ProvedKeeper S)) → List ℕ →
+  abbrev pub AnewReady : Option (Kept (PageTrees P) (ProvedKeeper S)) → List ℕ →
       Option (Kept (PageTrees P) (ProvedKeeper S)) → Option Cause → Result (Unit {0}) KeepFault → Type 0
-  AskedAnew old path held said result =
+  AnewReady old path held said result =
       IsAskedAnew path held said result (OfFile g gives PutsNothing path old)
+
+module _ {P S : Type 0} (p : PagesGhosts P) (g : Ghosts S) (gives : Opening P S → Part P S → Type 0)
+    (refuses : Opening P S → Cause → Type 0) (foreign : Opening P S → Type 0) (there : List ℕ → Places → Type 0)
+    (gone : List ℕ → Places → Cause → Type 0) (see : S → S → Result Bool StoreError → Type 0) where
+  -- it is begun anew once what is held was found where it lay, and is told once the files were found where they lie
+  -- then; else what is held is let go
+  abbrev pub AskedAnew : Option Places → Option Places → Option (Kept (PageTrees P) (ProvedKeeper S)) → List ℕ →
+      Option (Kept (PageTrees P) (ProvedKeeper S)) → Option Cause → Result (Unit {0}) KeepFault → Type 0
+  AskedAnew before after old path held said result =
+      LooksFirst (there path) (gone path) before old held said result
+      (IsPutThere (there path) (gone path) after (AnewReady p g gives refuses foreign see old path) held said result)

@@ -17,6 +17,7 @@ use Rattle.keep_trees.specs.declared.page_trees.PageTrees.{PageTrees}
 use Rattle.keep_database.specs.declared.proved.ProvedKeeper.{ProvedKeeper}
 use Rattle.keep_files.specs.declared.cause.Cause.{Cause}
 use Rattle.keep_files.specs.declared.kept.Kept.{Kept}
+use Rattle.keep_files.specs.declared.place.Places.{Places}
 use Rattle.keep_files.specs.declared.kept.Kept.TheVariants.{Trees, Whole}
 use Rattle.keep_files.specs.Causes.{cause_in_store}
 use Rattle.keep_files.specs.Does.{Does, PutFails, PutsRun, ReadFails}
@@ -24,6 +25,7 @@ use Rattle.keep_files.specs.Looks.{Looks}
 use Rattle.keep_files.specs.Openings.{Opening, Part, AsTrees, AsStore, IsAdopted, LacksTables, NotOpened}
 use Rattle.keep_files.specs.Openings.{WasUnopened, IsUnread, IsUnput}
 use Rattle.keep_files.specs.Origins.{Comes, OfFile, PutsNothing, FoundOf, AdoptedOf, FoundAgain}
+use Rattle.keep_files.specs.Places.{IsPutThere, LooksFirst}
 use Rattle.keep_files.specs.Whys.{IsWhyOf}
 
 -- the keeper that is called is the one that is held, or one that was opened for the call
@@ -100,8 +102,20 @@ module _ {P S A : Type 0} (p : PagesGhosts P) (g : Ghosts S) (gives : Opening P 
       ⊎ ((old ≡ None) × (held ≡ None) × WasUnopened (IsUnread (NotOpened g comes refuses) path) said result))
 
   -- they came of the file at the path, or are what was held of it
+  abbrev pub ReadsReady : Type 0
+  ReadsReady = IsRead (OfFile g gives PutsNothing path old)
+
+module _ {P S A : Type 0} (p : PagesGhosts P) (g : Ghosts S) (gives : Opening P S → Part P S → Type 0)
+    (refuses : Opening P S → Cause → Type 0) (there : List ℕ → Places → Type 0)
+    (gone : List ℕ → Places → Cause → Type 0) (takes : Office → Type 0) (answers : Office → A → Type 0)
+    (shows : Held S → Result A KeepFault → Type 0) (tells : Contents → Result A KeepFault → Type 0)
+    (places : Option Places) (old : Option (Kept (PageTrees P) (ProvedKeeper S))) (path : List ℕ)
+    (held : Option (Kept (PageTrees P) (ProvedKeeper S))) (said : Option Cause) (result : Result A KeepFault) where
+  -- a call that reads is made once what is held was found where it lay; else that is let go
   abbrev pub AskedToRead : Type 0
-  AskedToRead = IsRead (OfFile g gives PutsNothing path old)
+  AskedToRead =
+      LooksFirst (there path) (gone path) places old held said result
+      (ReadsReady p g gives refuses takes answers shows tells old path held said result)
 
 module _ {P S : Type 0} (g : Ghosts S) (gives : Opening P S → Part P S → Type 0) where
   -- what is ready for a call is what is held, or it was found for the call and came of the file at the path
@@ -207,7 +221,20 @@ module _ {P S : Type 0} (p : PagesGhosts P) (g : Ghosts S) (gives : Opening P S 
       ⊎ (IsNotWhole old × IsPutIn path held said result comes)
 
   -- they came of the file at the path, or of what was held of it
-  abbrev pub AskedToPut : Option (Kept (PageTrees P) (ProvedKeeper S)) → List ℕ →
+  abbrev pub PutsReady : Option (Kept (PageTrees P) (ProvedKeeper S)) → List ℕ →
       Option (Kept (PageTrees P) (ProvedKeeper S)) → Option Cause → Result (Unit {0}) KeepFault → Type 0
-  AskedToPut old path held said result =
+  PutsReady old path held said result =
       IsAskedToPut old path held said result (OfFile g gives (Misfits see) path old)
+
+module _ {P S : Type 0} (p : PagesGhosts P) (g : Ghosts S) (gives : Opening P S → Part P S → Type 0)
+    (refuses : Opening P S → Cause → Type 0) (there : List ℕ → Places → Type 0)
+    (gone : List ℕ → Places → Cause → Type 0) (see : S → S → Result Bool StoreError → Type 0)
+    (writes : List (List ℕ × Row)) (asks : Office → Type 0) (next : Office → Office) where
+  -- a call that puts is made once what is held was found where it lay, and is told once the files were found where they
+  -- lie then; else what is held is let go
+  abbrev pub AskedToPut : Option Places → Option Places → Option (Kept (PageTrees P) (ProvedKeeper S)) → List ℕ →
+      Option (Kept (PageTrees P) (ProvedKeeper S)) → Option Cause → Result (Unit {0}) KeepFault → Type 0
+  AskedToPut before after old path held said result =
+      LooksFirst (there path) (gone path) before old held said result
+      (IsPutThere (there path) (gone path) after (PutsReady p g gives refuses see writes asks next old path) held said
+      result)

@@ -11,6 +11,8 @@ use Rattle.sqlite.specs.declared.error.ErrorCode.TheVariants.{DatabaseBusy, Cann
 use Rattle.sqlite.specs.declared.error.ErrorCode.TheVariants.{DiskFull, SystemIoFailure, Closed, OutOfMemory}
 use Rattle.sqlite_trees.specs.declared.error.StoreError.{StoreError}
 use Rattle.sqlite_trees.specs.declared.error.StoreError.TheVariants as Store
+use Rattle.sqlite_store.specs.declared.error.OpenError.{OpenError as StoreOpenError}
+use Rattle.sqlite_store.specs.declared.error.OpenError.TheVariants as Checking
 use Rattle.sqlite_pages.specs.declared.error.Error.{Error as PageError}
 use Rattle.sqlite_pages.specs.declared.error.Error.TheVariants as Page
 use Rattle.keep_office.specs.declared.kept.KeepFault.{KeepFault}
@@ -63,6 +65,20 @@ cause_in_store Store.Corrupt = Spoiled
 cause_in_store Store.Full = NoRoom
 cause_in_store Store.Broken = Shut
 cause_in_store Store.Unstorable = Odd
+
+-- the cause that an error of the opening of a store is, by whether a write found no room
+abbrev pub checking_cause : StoreOpenError → Bool → Cause
+checking_cause Checking.OutOfMemory no_room = Memory
+checking_cause Checking.Io true = NoRoom
+checking_cause Checking.Io false = DiskFailed
+checking_cause Checking.Full no_room = NoRoom
+checking_cause Checking.Refused no_room = NotOurs
+
+-- a cause that such an error has where the files are not found to be another's
+abbrev pub IsOfChecking : Cause → Type 0
+IsOfChecking cause =
+    (error : StoreOpenError) × ((error ≢ Checking.Refused)
+    × ((no_room : Bool) × (cause ≡ checking_cause error no_room)))
 
 -- the cause that an error of pages is as they are closed, by whether a write found no room
 abbrev pub close_cause : PageError → Bool → Cause

@@ -1,6 +1,7 @@
 -- A keeper in a file: how its calls are made by the pages or by the database, and why one fails.
 
 pub mod Causes
+pub mod Places
 pub mod Whys
 pub mod Does
 pub mod Looks

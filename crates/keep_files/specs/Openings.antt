@@ -1,6 +1,7 @@
 -- What is opened for a call of a file, and why it was not.
 use Rattle.std.specs.Prelude.{◌≡◌, ◌≢◌, ◌⊎◌, ◌↔◌, ◌++◌, codes, ℕ, List, IsTrue}
 use Rattle.std.specs.Prelude.{Option, Some, None, Result, Ok, Err}
+use Rattle.std.specs.declared.io.ErrorKind.{ErrorKind}
 use Rattle.sqlite.specs.declared.error.Error.TheVariants.{SqliteFailure}
 use Rattle.sqlite.specs.declared.error.ErrorCode.TheVariants.{OutOfMemory}
 use Rattle.sqlite.specs.Held.{Held, state}
@@ -17,10 +18,10 @@ use Rattle.keep_writes.specs.Unmade.{CommitsTables, IsUnmade, IsUnmadeBy, Leaves
 use Rattle.keep_trees.specs.declared.page_trees.PageTrees.{PageTrees}
 use Rattle.keep_database.specs.declared.proved.ProvedKeeper.{ProvedKeeper}
 use Rattle.keep_files.specs.declared.cause.Cause.{Cause}
-use Rattle.keep_files.specs.declared.cause.Cause.TheVariants.{Unopened, NotOurs, Memory}
+use Rattle.keep_files.specs.declared.cause.Cause.TheVariants.{Unopened, NotOurs, Memory, Replaced, Emptied}
 use Rattle.keep_files.specs.declared.kept.Kept.{Kept}
 use Rattle.keep_files.specs.declared.kept.Kept.TheVariants.{Trees, Whole}
-use Rattle.keep_files.specs.Causes.{opening_cause}
+use Rattle.keep_files.specs.Causes.{kind_cause, opening_cause}
 
 -- what is opened: the file at a path, that of some pages, or that of a store
 pub data Opening (P S : Type 0) : Type 0 where
@@ -139,7 +140,13 @@ module _ {P S : Type 0} (refuses : Opening P S → Cause → Type 0) (path : Lis
 abbrev pub NamesNoFile : List ℕ → Type 0
 NamesNoFile path = (path ≡ codes ":memory:") ⊎ ((rest : List ℕ) × (path ≡ codes "file:" ++ rest))
 
--- a cause for which the file at a path is refused: that of an error of an opening, or the path names none
+-- a cause that a look at a path may have: another file or none is there, there is no memory, or the system refuses it
+abbrev pub IsOfLook : Cause → Type 0
+IsOfLook cause = (cause ≡ Replaced) ⊎ ((cause ≡ Memory) ⊎ ((kind : ErrorKind) × (cause ≡ kind_cause kind)))
+
+-- a cause for which the file at a path is refused: that of an error of an opening, or of a look at the path, or the
+-- path names none; or its file is empty or missing beside a log, or of one byte that none of ours begins with
 abbrev pub IsOfOpening : List ℕ → Cause → Type 0
 IsOfOpening path cause =
-    ((error : OpenError) × (cause ≡ opening_cause error)) ⊎ (NamesNoFile path × (cause ≡ Unopened))
+    ((error : OpenError) × (cause ≡ opening_cause error)) ⊎ ((NamesNoFile path × (cause ≡ Unopened))
+    ⊎ (IsOfLook cause ⊎ ((cause ≡ Emptied) ⊎ (cause ≡ NotOurs))))

@@ -11,7 +11,9 @@ use Rattle.sqlite.specs.declared.error.Error.{Error}
 use Rattle.sqlite.specs.declared.file.Leftover.{Leftover}
 use Rattle.keep_files.specs.declared.cause.Cause.{Cause}
 use Rattle.keep_files.specs.declared.cause.Cause.TheVariants.{DiskFailed}
-use Rattle.keep_files.specs.Causes.{IsCauseOf}
+use Rattle.keep_files.specs.declared.missed.Missed.{Missed}
+use Rattle.keep_files.specs.declared.missed.Missed.TheVariants.{Foreign, Failed}
+use Rattle.keep_files.specs.Causes.{IsCauseOf, IsOfChecking}
 use Rattle.keep_files.specs.Files.{AreLeft}
 use Rattle.keep_files.specs.Openings.{Opening, FromPath, FromPages, FromStore}
 
@@ -27,14 +29,25 @@ pub record IsRefusedBy {D : Type 0} (g : Ghosts D) (files : Files D) (cause : Ca
 abbrev pub AreSpent : {D : Type 0} (g : Ghosts D) → Files D → Cause → Type 0
 AreSpent g files cause = ((g.is_usable files.log && g.is_usable files.db) ≡ false) × (cause ≡ DiskFailed)
 
+-- what was looked for is another's
+abbrev pub IfForeign : {T : Type 0} → (T → Type 0) → Missed T → Type 0
+IfForeign so (Foreign back) = so back
+IfForeign so (Failed cause) = Unit {0}
+
+-- the look failed for a cause
+abbrev pub IfFailed : {T : Type 0} → (Cause → Type 0) → Missed T → Type 0
+IfFailed so (Foreign back) = Unit {0}
+IfFailed so (Failed cause) = so cause
+
 module _ {D : Type 0} (g : Ghosts D) where
   -- files were refused for a cause: they are not to be used, or a database refused to open them
   abbrev pub AreRefused : Files D → Cause → Type 0
   AreRefused files cause = AreSpent g files cause ⊎ IsRefusedBy g files cause
 
-  -- what a look for our trees left of files was refused
+  -- the opening of a store of files failed for a cause, or what a look for our trees left of them was refused
   abbrev pub AreLeftRefused : Files D → Cause → Type 0
-  AreLeftRefused files cause = (left : Files D) × AreLeft g files left × AreRefused left cause
+  AreLeftRefused files cause =
+      IsOfChecking cause ⊎ ((left : Files D) × AreLeft g files left × AreRefused left cause)
 
   -- why files are not opened: no number is drawn, or they are refused
   abbrev pub RefusesFiles : (Cause → Type 0) → Files D → Cause → Type 0

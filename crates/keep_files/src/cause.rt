@@ -4,12 +4,14 @@ ghost use Rattle.keep_office.specs.declared.kept.KeepFault.TheVariants.{Failed, 
 ghost use Rattle.std.specs.Prelude.{Some};
 ghost use Rattle.keep_files.specs.declared.cause.Cause.TheVariants.{Memory};
 ghost use Rattle.keep_files.specs.Asked.{store_fault};
-ghost use Rattle.keep_files.specs.Causes.{IsCauseOf, IsSaidOf, cause_in_store, close_cause, kind_cause, opening_cause};
+ghost use Rattle.keep_files.specs.Causes.{IsCauseOf, IsSaidOf, cause_in_store, checking_cause, close_cause, kind_cause};
+ghost use Rattle.keep_files.specs.Causes.{opening_cause};
 
 use keep_office::KeepFault;
 use sqlite::{Error as Refused, ErrorCode};
 use sqlite_pages::Error as PageError;
 use sqlite_std_file::OpenError;
+use sqlite_store::OpenError as Unchecked;
 use sqlite_trees::error::StoreError;
 use std::io::ErrorKind;
 use thiserror::Error;
@@ -45,6 +47,10 @@ pub enum Cause {
     Shut,
     #[error("memory ran out")]
     Memory,
+    #[error("it was replaced, removed or emptied while it was open, or its log was, or it got a second name")]
+    Replaced,
+    #[error("it is empty or missing, but its log is not: put the file back, or move the log away")]
+    Emptied,
 }
 
 /// The cause that an error of the database is.
@@ -77,7 +83,7 @@ pub fn cause_of_opening(error: OpenError) -> Cause
 }
 
 /// The cause that a refusal of the file system is.
-fn cause_of_kind(kind: ErrorKind) -> Cause
+pub fn cause_of_kind(kind: ErrorKind) -> Cause
     ensures { result ≡ kind_cause kind }
 {
     match kind {
@@ -153,5 +159,22 @@ pub fn cause_at_close(error: PageError, no_room: bool) -> Cause
             }
             Cause::DiskFailed
         }
+    }
+}
+
+/// The cause that an error of the opening of a store is, by whether a write found no room.
+pub fn cause_of_checking(error: Unchecked, no_room: bool) -> Cause
+    ensures { result ≡ checking_cause error no_room }
+{
+    match error {
+        Unchecked::OutOfMemory => Cause::Memory,
+        Unchecked::Io => {
+            if no_room {
+                return Cause::NoRoom;
+            }
+            Cause::DiskFailed
+        }
+        Unchecked::Full => Cause::NoRoom,
+        Unchecked::Refused => Cause::NotOurs,
     }
 }

@@ -1,10 +1,11 @@
 // A database that is opened when it is first asked for.
-ghost use Rattle.std.specs.Prelude.{◌≡◌, None, IfOk, IfErr, option_map, string_bytes};
+ghost use Rattle.std.specs.Prelude.{◌≡◌, None, IfOk, IfErr, IfSome, IsSome, OnErr, OnOk, option_map, string_bytes};
 ghost use Rattle.keep_files.specs.Asked.{AskedToRead, AskedToPut, HoldsFound, IsPutBy, IsPutByTrees, IsPutOver};
-ghost use Rattle.keep_files.specs.Asked.{IsReadyOf, IsUnreadOf};
+ghost use Rattle.keep_files.specs.Asked.{IsReadyOf, IsUnreadOf, PutsReady, ReadsReady};
 ghost use Rattle.keep_files.specs.Causes.{IsSaid};
 ghost use Rattle.keep_files.specs.Closes.{given_up};
 ghost use Rattle.keep_files.specs.Openings.{AsWhole, IsAdopted, LacksTables};
+ghost use Rattle.keep_files.specs.Places.{AreGone, AreThere, IsConfirmed, IsLetGo};
 ghost use Rattle.keep_files.specs.Origins.{FoundAgain, OfFile, PutsNothing, TriesPath, WasAsked};
 ghost use Rattle.keep_files.specs.Storing.{PutsInto};
 
@@ -14,6 +15,7 @@ use crate::call::{Putting, Reading};
 use crate::cause::{Cause, say, say_of_store};
 use crate::kept::Kept;
 use crate::opens::Opens;
+use crate::place::Places;
 use crate::whys::unless_failed;
 use keep_database::{ProvedKeeper, Steady};
 use keep_office::KeepFault;
@@ -23,25 +25,31 @@ use sqlite_pages::Pages;
 use std::rt::HostRuntime;
 
 /// A database that is opened when it is first asked for: by its trees where it is exactly ours or new, or whole. A
-/// call that puts is made of the store of the same trees, or of the whole. `cause` is why the last call failed that
-/// did.
+/// call that puts is made of the store of the same trees, or of the whole. `wait` is for how many seconds an opening
+/// waits for another that has the file open, `places` where the files lay as they were opened, and `cause` is why the
+/// last call failed that did.
 #[derive(Drop)]
 pub struct Database<S: Opens<P>, P: Pages + Drop> {
     pub(crate) rt: HostRuntime,
     pub(crate) path: String,
+    pub(crate) wait: u32,
+    pub(crate) places: Option<Places>,
     pub(crate) kept: Option<Kept<PageTrees<P>, ProvedKeeper<S>>>,
     pub(crate) cause: Option<Cause>,
 }
 
 impl<S: Opens<P>, P: Pages + Drop> Database<S, P> {
     /// The database at a path, which is not open.
-    pub(crate) fn new(rt: HostRuntime, path: String) -> Database<S, P>
+    pub(crate) fn new(rt: HostRuntime, path: String, wait: u32) -> Database<S, P>
         ensures quiet { result.cause ≡ None }
         ensures named { result.path ≡ path }
+        ensures waits { result.wait ≡ wait }
     {
         Database {
             rt,
             path,
+            wait,
+            places: None,
             kept: None,
             cause: None,
         }
@@ -54,6 +62,8 @@ impl<S: Opens<P>, P: Pages + Drop> Database<S, P> {
         let Database {
             rt: _,
             path: _,
+            wait: _,
+            places: _,
             kept,
             cause: _,
         } = self;
@@ -64,11 +74,82 @@ impl<S: Opens<P>, P: Pages + Drop> Database<S, P> {
         }
     }
 
-    /// Makes a call that reads, of what is held, or of what is opened for it. A failure lets it go, so that the next
-    /// call opens the file anew.
+    /// Looks whether the files that are held are where they lay. Else they are let go, so that the next call opens what
+    /// is there.
+    fn look(&mut self) -> Result<(), KeepFault>
+        ensures there { OnOk result (IfSome self.old.kept
+            (λ _. AreThere (S.Opens.there (string_bytes self.old.path)) self.old.places)) }
+        ensures same { OnOk result (self.new ≡ self.old) }
+        ensures gone { OnErr result (IsSome self.old.kept
+            × IsLetGo (S.Opens.there (string_bytes self.old.path)) (S.Opens.gone (string_bytes self.old.path))
+            self.old.places self.new.kept self.new.cause result) }
+        ensures said { IsSaid result self.old.cause self.new.cause }
+        ensures stays { self.new.path ≡ self.old.path }
+    {
+        if self.kept.is_none() {
+            return Ok(());
+        }
+        match self.are_there() {
+            Ok(()) => Ok(()),
+            Err(cause) => {
+                self.kept = None;
+                Err(say(&mut self.cause, cause))
+            }
+        }
+    }
+
+    /// Looks whether the files at the path are where they lay as they were opened.
+    fn are_there(&self) -> Result<(), Cause>
+        ensures there { OnOk result (AreThere (S.Opens.there (string_bytes self.now.path)) self.now.places) }
+        ensures gone { IfErr result (AreGone (S.Opens.gone (string_bytes self.now.path)) self.now.places) }
+    {
+        match &self.places {
+            Some(places) => S::look(&self.rt, self.path.as_str(), places),
+            None => Err(Cause::Replaced),
+        }
+    }
+
+    /// What a put is told as: one that was done is, where the files are still where they lie. Else nobody would find it.
+    fn confirmed(&mut self, answer: Result<(), KeepFault>) -> Result<(), KeepFault>
+        ensures does { IsConfirmed (S.Opens.there (string_bytes self.old.path)) (S.Opens.gone (string_bytes self.old.path))
+            self.old.places self.old.kept self.old.cause answer self.new.kept self.new.cause result }
+        ensures said { OnOk answer (IsSaid result self.old.cause self.new.cause) }
+        ensures stays { self.new.path ≡ self.old.path }
+        ensures lies { self.new.places ≡ self.old.places }
+    {
+        if let Err(fault) = answer {
+            return Err(fault);
+        }
+        match self.are_there() {
+            Ok(()) => Ok(()),
+            Err(cause) => {
+                self.kept = None;
+                Err(say(&mut self.cause, cause))
+            }
+        }
+    }
+
+    /// Makes a call that reads, of what is held and is where it lay, or of what is opened for it. A failure lets it go,
+    /// so that the next call opens the file anew.
     pub(crate) fn read<C: Reading + Drop>(&mut self, call: C) -> Result<C::Answer, KeepFault>
         ensures answers { IfOk result C.answers }
-        ensures does { AskedToRead P.Pages S.Store S.Opens.gives S.Opens.refuses (C.takes call) (C.gives call)
+        ensures does { AskedToRead P.Pages S.Store S.Opens.gives S.Opens.refuses S.Opens.there S.Opens.gone (C.takes call) (C.gives call)
+            (C.shows S.Store call) (C.tells call)
+            self.old.places self.old.kept (string_bytes self.old.path) self.new.kept self.new.cause result }
+        ensures tried { TriesPath S.Store S.Opens.gives S.Opens.refuses (string_bytes self.old.path) self.old.kept }
+        ensures said { IsSaid result self.old.cause self.new.cause }
+        ensures stays { self.new.path ≡ self.old.path }
+    {
+        match self.look() {
+            Ok(()) => self.read_ready(call),
+            Err(fault) => Err(fault),
+        }
+    }
+
+    /// Makes a call that reads, of what is held, or of what is opened for it.
+    fn read_ready<C: Reading + Drop>(&mut self, call: C) -> Result<C::Answer, KeepFault>
+        ensures answers { IfOk result C.answers }
+        ensures does { ReadsReady P.Pages S.Store S.Opens.gives S.Opens.refuses (C.takes call) (C.gives call)
             (C.shows S.Store call) (C.tells call)
             self.old.kept (string_bytes self.old.path) self.new.kept self.new.cause result }
         ensures tried { TriesPath S.Store S.Opens.gives S.Opens.refuses (string_bytes self.old.path) self.old.kept }
@@ -92,10 +173,32 @@ impl<S: Opens<P>, P: Pages + Drop> Database<S, P> {
         answer
     }
 
-    /// Makes a call that puts, of the keeper that is held, or of a store or a keeper that is opened for it.
+    /// Makes a call that puts, of the keeper that is held and is where it lay, or of a store or a keeper that is opened
+    /// for it; and looks whether its file is still there before it says that it was done.
     pub(crate) fn put<C: Putting + Drop>(&mut self, call: C) -> Result<(), KeepFault>
         requires { C.fits call }
-        ensures does { AskedToPut P.Pages S.Store S.Opens.gives S.Opens.refuses
+        ensures does { AskedToPut P.Pages S.Store S.Opens.gives S.Opens.refuses S.Opens.there S.Opens.gone
+            (PutsInto S.Store (C.room call) (C.asks call) (C.next call) (C.finds call) (C.makes call))
+            (C.writes call) (C.asks call) (C.next call)
+            self.old.places self.new.places
+            self.old.kept (string_bytes self.old.path) self.new.kept self.new.cause result }
+        ensures tried { TriesPath S.Store S.Opens.gives S.Opens.refuses (string_bytes self.old.path) self.old.kept }
+        ensures said { IsSaid result self.old.cause self.new.cause }
+        ensures stays { self.new.path ≡ self.old.path }
+    {
+        match self.look() {
+            Ok(()) => {
+                let answer = self.put_ready(call);
+                self.confirmed(answer)
+            }
+            Err(fault) => Err(fault),
+        }
+    }
+
+    /// Makes a call that puts, of the keeper that is held, or of a store or a keeper that is opened for it.
+    fn put_ready<C: Putting + Drop>(&mut self, call: C) -> Result<(), KeepFault>
+        requires { C.fits call }
+        ensures does { PutsReady P.Pages S.Store S.Opens.gives S.Opens.refuses
             (PutsInto S.Store (C.room call) (C.asks call) (C.next call) (C.finds call) (C.makes call))
             (C.writes call) (C.asks call) (C.next call)
             self.old.kept (string_bytes self.old.path) self.new.kept self.new.cause result }
@@ -196,7 +299,31 @@ impl<S: Opens<P>, P: Pages + Drop> Database<S, P> {
         if let Some(kept) = self.kept.take() {
             return Ok(kept);
         }
-        self.opened()
+        self.opened_there()
+    }
+
+    /// What is opened, once it is known where its files lie: where they lay before the opening, and lie behind it.
+    fn opened_there(&mut self) -> Result<Kept<PageTrees<P>, ProvedKeeper<S>>, Cause>
+        ensures tried { TriesPath S.Store S.Opens.gives S.Opens.refuses (string_bytes self.old.path) None }
+        ensures ready { IfOk result (IsReadyOf S.Store S.Opens.gives P.Pages (string_bytes self.old.path) None) }
+        ensures refused { IfErr result
+            (IsUnreadOf S.Store S.Opens.gives S.Opens.refuses (string_bytes self.old.path) None) }
+        ensures none { self.new.kept ≡ self.old.kept }
+        ensures unsaid { self.new.cause ≡ self.old.cause }
+        ensures named { self.new.path ≡ self.old.path }
+    {
+        let before = S::places(&self.rt, self.path.as_str(), &None).ok();
+        let kept = match self.opened() {
+            Ok(kept) => kept,
+            Err(cause) => return Err(cause),
+        };
+        match S::places(&self.rt, self.path.as_str(), &before) {
+            Ok(places) => {
+                self.places = Some(places);
+                Ok(kept)
+            }
+            Err(cause) => Err(cause),
+        }
     }
 
     /// The trees of the file, or a keeper on a new connection.
@@ -206,7 +333,7 @@ impl<S: Opens<P>, P: Pages + Drop> Database<S, P> {
         ensures refused { IfErr result
             (IsUnreadOf S.Store S.Opens.gives S.Opens.refuses (string_bytes self.now.path) None) }
     {
-        let mut conn = match S::to_read(&self.rt, self.path.as_str()) {
+        let mut conn = match S::to_read(&self.rt, self.path.as_str(), self.wait) {
             Ok(Kept::Trees(trees)) => return Ok(Kept::Trees(trees)),
             Ok(Kept::Whole(conn)) => conn,
             Err(cause) => return Err(cause),
@@ -254,7 +381,7 @@ impl<S: Opens<P>, P: Pages + Drop> Database<S, P> {
         ensures refused { IfErr result
             (IsUnreadOf S.Store S.Opens.gives S.Opens.refuses (string_bytes self.now.path) None) }
     {
-        match S::to_read(&self.rt, self.path.as_str()) {
+        match S::to_read(&self.rt, self.path.as_str(), self.wait) {
             Ok(Kept::Trees(trees)) => Ok(Kept::Trees(trees)),
             Ok(Kept::Whole(conn)) => self.whole(conn),
             Err(cause) => Err(cause),

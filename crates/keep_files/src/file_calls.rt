@@ -52,10 +52,10 @@ impl Keeper for SqliteKeeper {
         ensures cause { CountsFaults self.old.in_file.in_file.faults self.new.in_file.in_file.faults result }
         ensures said { Says result self.old.in_file.in_file.database self.new.in_file.in_file.database }
         ensures does { AskedToRead ⟦<KeptPages as Pages>⟧ ⟦<KeptStore as Store>⟧
-            ⟦<KeptStore as Opens<KeptPages>>⟧.gives ⟦<KeptStore as Opens<KeptPages>>⟧.refuses
+            ⟦<KeptStore as Opens<KeptPages>>⟧.gives ⟦<KeptStore as Opens<KeptPages>>⟧.refuses ⟦<KeptStore as Opens<KeptPages>>⟧.there ⟦<KeptStore as Opens<KeptPages>>⟧.gone
             (λ o. IsSome o.past) (λ o last. last ≡ last_day_of o)
             (λ old r. IfOk r (ShowsLast ⟦<KeptStore as Store>⟧ old)) (λ t r. IfOk r (IsToldLast (t 0) (t 3)))
-            self.old.in_file.in_file.database.kept (string_bytes self.old.in_file.in_file.database.path)
+            self.old.in_file.in_file.database.places self.old.in_file.in_file.database.kept (string_bytes self.old.in_file.in_file.database.path)
             self.new.in_file.in_file.database.kept self.new.in_file.in_file.database.cause result }
     {
         self.read(LastDay)
@@ -68,10 +68,10 @@ impl Keeper for SqliteKeeper {
         ensures cause { CountsFaults self.old.in_file.in_file.faults self.new.in_file.in_file.faults result }
         ensures said { Says result self.old.in_file.in_file.database self.new.in_file.in_file.database }
         ensures does { AskedToRead ⟦<KeptPages as Pages>⟧ ⟦<KeptStore as Store>⟧
-            ⟦<KeptStore as Opens<KeptPages>>⟧.gives ⟦<KeptStore as Opens<KeptPages>>⟧.refuses
+            ⟦<KeptStore as Opens<KeptPages>>⟧.gives ⟦<KeptStore as Opens<KeptPages>>⟧.refuses ⟦<KeptStore as Opens<KeptPages>>⟧.there ⟦<KeptStore as Opens<KeptPages>>⟧.gone
             (λ o. IsSome (record_of o day)) (λ o kept. kept ≡ record_of o day)
             (λ old r. IfOk r (ShowsDay ⟦<KeptStore as Store>⟧ day old)) (λ t r. IfOk r (IsToldDay (t 0) (t 4) day))
-            self.old.in_file.in_file.database.kept (string_bytes self.old.in_file.in_file.database.path)
+            self.old.in_file.in_file.database.places self.old.in_file.in_file.database.kept (string_bytes self.old.in_file.in_file.database.path)
             self.new.in_file.in_file.database.kept self.new.in_file.in_file.database.cause result }
     {
         self.read(AskedDay { day })
@@ -85,10 +85,10 @@ impl Keeper for SqliteKeeper {
         ensures cause { CountsFaults self.old.in_file.in_file.faults self.new.in_file.in_file.faults result }
         ensures said { Says result self.old.in_file.in_file.database self.new.in_file.in_file.database }
         ensures does { AskedToRead ⟦<KeptPages as Pages>⟧ ⟦<KeptStore as Store>⟧
-            ⟦<KeptStore as Opens<KeptPages>>⟧.gives ⟦<KeptStore as Opens<KeptPages>>⟧.refuses
+            ⟦<KeptStore as Opens<KeptPages>>⟧.gives ⟦<KeptStore as Opens<KeptPages>>⟧.refuses ⟦<KeptStore as Opens<KeptPages>>⟧.there ⟦<KeptStore as Opens<KeptPages>>⟧.gone
             (λ o. IsSome o.past) (λ o past. past ≡ o.past)
             (λ old r. IfOk r (ShowsPast ⟦<KeptStore as Store>⟧ old)) (λ t r. IfOk r (IsToldPast (t 3)))
-            self.old.in_file.in_file.database.kept (string_bytes self.old.in_file.in_file.database.path)
+            self.old.in_file.in_file.database.places self.old.in_file.in_file.database.kept (string_bytes self.old.in_file.in_file.database.path)
             self.new.in_file.in_file.database.kept self.new.in_file.in_file.database.cause result }
     {
         self.read(Past)
@@ -101,11 +101,11 @@ impl Keeper for SqliteKeeper {
         ensures cause { CountsFaults self.old.in_file.in_file.faults self.new.in_file.in_file.faults result }
         ensures said { Says result self.old.in_file.in_file.database self.new.in_file.in_file.database }
         ensures does { AskedToRead ⟦<KeptPages as Pages>⟧ ⟦<KeptStore as Store>⟧
-            ⟦<KeptStore as Opens<KeptPages>>⟧.gives ⟦<KeptStore as Opens<KeptPages>>⟧.refuses
+            ⟦<KeptStore as Opens<KeptPages>>⟧.gives ⟦<KeptStore as Opens<KeptPages>>⟧.refuses ⟦<KeptStore as Opens<KeptPages>>⟧.there ⟦<KeptStore as Opens<KeptPages>>⟧.gone
             (λ _. ⊥) (λ o tolls. tolls ≡ paid o.rows day vid xway)
             (λ old r. IfOk r (ShowsSpent ⟦<KeptStore as Store>⟧ day vid xway old))
             (λ t r. IfOk r (IsHeldAmount (t 1) (t 2) day vid xway))
-            self.old.in_file.in_file.database.kept (string_bytes self.old.in_file.in_file.database.path)
+            self.old.in_file.in_file.database.places self.old.in_file.in_file.database.kept (string_bytes self.old.in_file.in_file.database.path)
             self.new.in_file.in_file.database.kept self.new.in_file.in_file.database.cause result }
     {
         self.read(AskedSpent { day, vid, xway })
@@ -119,11 +119,11 @@ impl Keeper for SqliteKeeper {
         ensures cause { CountsFaults self.old.in_file.in_file.faults self.new.in_file.in_file.faults result }
         ensures said { Says result self.old.in_file.in_file.database self.new.in_file.in_file.database }
         ensures does { AskedToRead ⟦<KeptPages as Pages>⟧ ⟦<KeptStore as Store>⟧
-            ⟦<KeptStore as Opens<KeptPages>>⟧.gives ⟦<KeptStore as Opens<KeptPages>>⟧.refuses
+            ⟦<KeptStore as Opens<KeptPages>>⟧.gives ⟦<KeptStore as Opens<KeptPages>>⟧.refuses ⟦<KeptStore as Opens<KeptPages>>⟧.there ⟦<KeptStore as Opens<KeptPages>>⟧.gone
             (λ o. rows_between o from to ≢ []) (λ o rows. rows.items ≡ rows_between o from to)
             (λ old r. IfOk r (λ rows. ShowsRows ⟦<KeptStore as Store>⟧ from to old rows.items))
             (λ t r. IfOk r (λ rows. AreToldRows (t 1) (t 2) from to rows.items))
-            self.old.in_file.in_file.database.kept (string_bytes self.old.in_file.in_file.database.path)
+            self.old.in_file.in_file.database.places self.old.in_file.in_file.database.kept (string_bytes self.old.in_file.in_file.database.path)
             self.new.in_file.in_file.database.kept self.new.in_file.in_file.database.cause result }
     {
         self.read(Rows { from, to })
@@ -137,12 +137,12 @@ impl Keeper for SqliteKeeper {
         ensures cause { CountsFaults self.old.in_file.in_file.faults self.new.in_file.in_file.faults result }
         ensures said { Says result self.old.in_file.in_file.database self.new.in_file.in_file.database }
         ensures does { AskedToRead ⟦<KeptPages as Pages>⟧ ⟦<KeptStore as Store>⟧
-            ⟦<KeptStore as Opens<KeptPages>>⟧.gives ⟦<KeptStore as Opens<KeptPages>>⟧.refuses
+            ⟦<KeptStore as Opens<KeptPages>>⟧.gives ⟦<KeptStore as Opens<KeptPages>>⟧.refuses ⟦<KeptStore as Opens<KeptPages>>⟧.there ⟦<KeptStore as Opens<KeptPages>>⟧.gone
             (λ o. vehicle_rows_between o vid from to ≢ [])
             (λ o rows. rows.items ≡ vehicle_rows_between o vid from to)
             (λ old r. IfOk r (λ rows. ShowsVehicleRows ⟦<KeptStore as Store>⟧ vid from to old rows.items))
             (λ t r. IfOk r (λ rows. AreToldOf (t 1) (t 2) vid from to rows.items))
-            self.old.in_file.in_file.database.kept (string_bytes self.old.in_file.in_file.database.path)
+            self.old.in_file.in_file.database.places self.old.in_file.in_file.database.kept (string_bytes self.old.in_file.in_file.database.path)
             self.new.in_file.in_file.database.kept self.new.in_file.in_file.database.cause result }
     {
         self.read(VehicleRows { vid, from, to })
@@ -155,10 +155,10 @@ impl Keeper for SqliteKeeper {
         ensures cause { CountsFaults self.old.in_file.in_file.faults self.new.in_file.in_file.faults result }
         ensures said { Says result self.old.in_file.in_file.database self.new.in_file.in_file.database }
         ensures does { AskedToRead ⟦<KeptPages as Pages>⟧ ⟦<KeptStore as Store>⟧
-            ⟦<KeptStore as Opens<KeptPages>>⟧.gives ⟦<KeptStore as Opens<KeptPages>>⟧.refuses
+            ⟦<KeptStore as Opens<KeptPages>>⟧.gives ⟦<KeptStore as Opens<KeptPages>>⟧.refuses ⟦<KeptStore as Opens<KeptPages>>⟧.there ⟦<KeptStore as Opens<KeptPages>>⟧.gone
             (λ o. o.tariffs ≢ []) (λ o tariffs. tariffs ≡ o.tariffs)
             (λ old r. IfOk r (ShowsTariffs ⟦<KeptStore as Store>⟧ old)) (λ t r. IfOk r (AreTold (t 5)))
-            self.old.in_file.in_file.database.kept (string_bytes self.old.in_file.in_file.database.path)
+            self.old.in_file.in_file.database.places self.old.in_file.in_file.database.kept (string_bytes self.old.in_file.in_file.database.path)
             self.new.in_file.in_file.database.kept self.new.in_file.in_file.database.cause result }
     {
         self.read(KeptTariffs)
@@ -173,11 +173,12 @@ impl Keeper for SqliteKeeper {
         ensures cause { CountsFaults self.old.in_file.in_file.faults self.new.in_file.in_file.faults result }
         ensures said { Says result self.old.in_file.in_file.database self.new.in_file.in_file.database }
         ensures does { AskedToPut ⟦<KeptPages as Pages>⟧ ⟦<KeptStore as Store>⟧
-            ⟦<KeptStore as Opens<KeptPages>>⟧.gives ⟦<KeptStore as Opens<KeptPages>>⟧.refuses
+            ⟦<KeptStore as Opens<KeptPages>>⟧.gives ⟦<KeptStore as Opens<KeptPages>>⟧.refuses ⟦<KeptStore as Opens<KeptPages>>⟧.there ⟦<KeptStore as Opens<KeptPages>>⟧.gone
             (PutsInto ⟦<KeptStore as Store>⟧ (RoomForDay kept.now rows.now)
             (IsLater kept.now.day) (with_day kept.now rows.now)
             (IsFreshDay kept.now rows.now) (PutsDay kept.now rows.now))
             (day_texts kept.now rows.now) (IsLater kept.now.day) (with_day kept.now rows.now)
+            self.old.in_file.in_file.database.places self.new.in_file.in_file.database.places
             self.old.in_file.in_file.database.kept (string_bytes self.old.in_file.in_file.database.path)
             self.new.in_file.in_file.database.kept self.new.in_file.in_file.database.cause result }
     {
@@ -193,11 +194,12 @@ impl Keeper for SqliteKeeper {
         ensures cause { CountsFaults self.old.in_file.in_file.faults self.new.in_file.in_file.faults result }
         ensures said { Says result self.old.in_file.in_file.database self.new.in_file.in_file.database }
         ensures does { AskedToPut ⟦<KeptPages as Pages>⟧ ⟦<KeptStore as Store>⟧
-            ⟦<KeptStore as Opens<KeptPages>>⟧.gives ⟦<KeptStore as Opens<KeptPages>>⟧.refuses
+            ⟦<KeptStore as Opens<KeptPages>>⟧.gives ⟦<KeptStore as Opens<KeptPages>>⟧.refuses ⟦<KeptStore as Opens<KeptPages>>⟧.there ⟦<KeptStore as Opens<KeptPages>>⟧.gone
             (PutsInto ⟦<KeptStore as Store>⟧ (RoomForPast rows.now)
             HasNoDays (with_past kept.now rows.now)
             (IsFreshPast rows.now) (PutsPast kept.now rows.now))
             (past_texts kept.now rows.now) HasNoDays (with_past kept.now rows.now)
+            self.old.in_file.in_file.database.places self.new.in_file.in_file.database.places
             self.old.in_file.in_file.database.kept (string_bytes self.old.in_file.in_file.database.path)
             self.new.in_file.in_file.database.kept self.new.in_file.in_file.database.cause result }
     {
@@ -212,11 +214,12 @@ impl Keeper for SqliteKeeper {
         ensures cause { CountsFaults self.old.in_file.in_file.faults self.new.in_file.in_file.faults result }
         ensures said { Says result self.old.in_file.in_file.database self.new.in_file.in_file.database }
         ensures does { AskedToPut ⟦<KeptPages as Pages>⟧ ⟦<KeptStore as Store>⟧
-            ⟦<KeptStore as Opens<KeptPages>>⟧.gives ⟦<KeptStore as Opens<KeptPages>>⟧.refuses
+            ⟦<KeptStore as Opens<KeptPages>>⟧.gives ⟦<KeptStore as Opens<KeptPages>>⟧.refuses ⟦<KeptStore as Opens<KeptPages>>⟧.there ⟦<KeptStore as Opens<KeptPages>>⟧.gone
             (PutsInto ⟦<KeptStore as Store>⟧ RoomForTariff
             FitsAny (with_tariff_of xway tariff.now)
             FindsAny (PutsTariff xway tariff.now))
             (tariff_texts xway tariff.now) FitsAny (with_tariff_of xway tariff.now)
+            self.old.in_file.in_file.database.places self.new.in_file.in_file.database.places
             self.old.in_file.in_file.database.kept (string_bytes self.old.in_file.in_file.database.path)
             self.new.in_file.in_file.database.kept self.new.in_file.in_file.database.cause result }
     {

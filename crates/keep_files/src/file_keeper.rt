@@ -35,16 +35,24 @@ pub struct FileKeeper<D: AtPath> {
 }
 
 impl<D: AtPath> FileKeeper<D> {
-    /// The keeper in the file at a path.
-    pub fn at(alloc: Global, rt: HostRuntime, path: &str) -> Result<FileKeeper<D>, NoMemory>
+    /// The keeper in the file at a path, for which it waits that number of seconds at most where another has it open.
+    pub fn at(
+        alloc: Global,
+        rt: HostRuntime,
+        path: &str,
+        wait: u32,
+    ) -> Result<FileKeeper<D>, NoMemory>
         ensures faultless { IfOk result (λ keeper. keeper.in_file.faults ≡ 0) }
         ensures quiet { IfOk result (λ keeper. keeper.in_file.database.cause ≡ None) }
         ensures named { IfOk result (λ keeper. string_bytes keeper.in_file.database.path ≡ path.now) }
+        ensures waits { IfOk result (λ keeper. keeper.in_file.database.wait ≡ wait) }
     {
         let path = String::from_str(alloc, path)?;
         let database = Database {
             rt,
             path,
+            wait,
+            places: None,
             kept: None,
             cause: None,
         };
@@ -86,9 +94,9 @@ impl<D: AtPath> FileKeeper<D> {
     pub fn read<C: Reading + Drop>(&mut self, call: C) -> Result<C::Answer, KeepFault>
         ensures answers { IfOk result C.answers }
         ensures does { AskedToRead ⟦<Pool<D> as Pages>⟧ ⟦<FileStore<D> as Store>⟧
-            ⟦<FileStore<D> as Opens<Pool<D>>>⟧.gives ⟦<FileStore<D> as Opens<Pool<D>>>⟧.refuses
+            ⟦<FileStore<D> as Opens<Pool<D>>>⟧.gives ⟦<FileStore<D> as Opens<Pool<D>>>⟧.refuses ⟦<FileStore<D> as Opens<Pool<D>>>⟧.there ⟦<FileStore<D> as Opens<Pool<D>>>⟧.gone
             (C.takes call) (C.gives call) (C.shows ⟦<FileStore<D> as Store>⟧ call) (C.tells call)
-            self.old.in_file.database.kept (string_bytes self.old.in_file.database.path)
+            self.old.in_file.database.places self.old.in_file.database.kept (string_bytes self.old.in_file.database.path)
             self.new.in_file.database.kept self.new.in_file.database.cause result }
         ensures tried { TriesPath ⟦<FileStore<D> as Store>⟧ ⟦<FileStore<D> as Opens<Pool<D>>>⟧.gives
             ⟦<FileStore<D> as Opens<Pool<D>>>⟧.refuses
@@ -103,10 +111,11 @@ impl<D: AtPath> FileKeeper<D> {
     pub fn put<C: Putting + Drop>(&mut self, call: C) -> Result<(), KeepFault>
         requires { C.fits call }
         ensures does { AskedToPut ⟦<Pool<D> as Pages>⟧ ⟦<FileStore<D> as Store>⟧
-            ⟦<FileStore<D> as Opens<Pool<D>>>⟧.gives ⟦<FileStore<D> as Opens<Pool<D>>>⟧.refuses
+            ⟦<FileStore<D> as Opens<Pool<D>>>⟧.gives ⟦<FileStore<D> as Opens<Pool<D>>>⟧.refuses ⟦<FileStore<D> as Opens<Pool<D>>>⟧.there ⟦<FileStore<D> as Opens<Pool<D>>>⟧.gone
             (PutsInto ⟦<FileStore<D> as Store>⟧ (C.room call) (C.asks call) (C.next call)
             (C.finds call) (C.makes call))
             (C.writes call) (C.asks call) (C.next call)
+            self.old.in_file.database.places self.new.in_file.database.places
             self.old.in_file.database.kept (string_bytes self.old.in_file.database.path)
             self.new.in_file.database.kept self.new.in_file.database.cause result }
         ensures tried { TriesPath ⟦<FileStore<D> as Store>⟧ ⟦<FileStore<D> as Opens<Pool<D>>>⟧.gives

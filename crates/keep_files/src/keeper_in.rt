@@ -30,15 +30,21 @@ pub struct KeeperIn<S: Opens<P>, P: Pages + Drop> {
 }
 
 impl<S: Opens<P>, P: Pages + Drop> KeeperIn<S, P> {
-    /// The keeper in the file at a path.
-    pub fn at(alloc: Global, rt: HostRuntime, path: &str) -> Result<KeeperIn<S, P>, NoMemory>
+    /// The keeper in the file at a path, for which it waits that number of seconds at most where another has it open.
+    pub fn at(
+        alloc: Global,
+        rt: HostRuntime,
+        path: &str,
+        wait: u32,
+    ) -> Result<KeeperIn<S, P>, NoMemory>
         ensures faultless { IfOk result (λ keeper. keeper.faults ≡ 0) }
         ensures quiet { IfOk result (λ keeper. keeper.database.cause ≡ None) }
         ensures named { IfOk result (λ keeper. string_bytes keeper.database.path ≡ path.now) }
+        ensures waits { IfOk result (λ keeper. keeper.database.wait ≡ wait) }
     {
         let path = String::from_str(alloc, path)?;
         Ok(KeeperIn {
-            database: Database::new(rt, path),
+            database: Database::new(rt, path, wait),
             faults: 0,
         })
     }
@@ -64,9 +70,9 @@ impl<S: Opens<P>, P: Pages + Drop> KeeperIn<S, P> {
     /// Makes a call that reads, and counts it where it failed.
     pub fn read<C: Reading + Drop>(&mut self, call: C) -> Result<C::Answer, KeepFault>
         ensures answers { IfOk result C.answers }
-        ensures does { AskedToRead P.Pages S.Store S.Opens.gives S.Opens.refuses
+        ensures does { AskedToRead P.Pages S.Store S.Opens.gives S.Opens.refuses S.Opens.there S.Opens.gone
             (C.takes call) (C.gives call) (C.shows S.Store call) (C.tells call)
-            self.old.database.kept (string_bytes self.old.database.path)
+            self.old.database.places self.old.database.kept (string_bytes self.old.database.path)
             self.new.database.kept self.new.database.cause result }
         ensures tried { TriesPath S.Store S.Opens.gives S.Opens.refuses
             (string_bytes self.old.database.path) self.old.database.kept }
@@ -80,9 +86,10 @@ impl<S: Opens<P>, P: Pages + Drop> KeeperIn<S, P> {
     /// Makes a call that puts, and counts it where it failed.
     pub fn put<C: Putting + Drop>(&mut self, call: C) -> Result<(), KeepFault>
         requires { C.fits call }
-        ensures does { AskedToPut P.Pages S.Store S.Opens.gives S.Opens.refuses
+        ensures does { AskedToPut P.Pages S.Store S.Opens.gives S.Opens.refuses S.Opens.there S.Opens.gone
             (PutsInto S.Store (C.room call) (C.asks call) (C.next call) (C.finds call) (C.makes call))
             (C.writes call) (C.asks call) (C.next call)
+            self.old.database.places self.new.database.places
             self.old.database.kept (string_bytes self.old.database.path)
             self.new.database.kept self.new.database.cause result }
         ensures tried { TriesPath S.Store S.Opens.gives S.Opens.refuses

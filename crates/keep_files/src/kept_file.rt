@@ -33,13 +33,29 @@ pub struct SqliteKeeper {
 }
 
 impl SqliteKeeper {
-    /// The keeper in the file at a path.
+    /// The keeper in the file at a path. It waits for nobody who has it open.
     pub fn at(alloc: Global, rt: HostRuntime, path: &str) -> Result<SqliteKeeper, NoMemory>
         ensures faultless { IfOk result (λ keeper. keeper.in_file.in_file.faults ≡ 0) }
         ensures quiet { IfOk result (λ keeper. keeper.in_file.in_file.database.cause ≡ None) }
         ensures named { IfOk result (λ keeper. string_bytes keeper.in_file.in_file.database.path ≡ path.now) }
+        ensures waits { IfOk result (λ keeper. keeper.in_file.in_file.database.wait ≡ 0) }
     {
-        let in_file = FileKeeper::at(alloc, rt, path)?;
+        SqliteKeeper::waiting(alloc, rt, path, 0)
+    }
+
+    /// The keeper in the file at a path, for which it waits that number of seconds at most where another has it open.
+    pub fn waiting(
+        alloc: Global,
+        rt: HostRuntime,
+        path: &str,
+        wait: u32,
+    ) -> Result<SqliteKeeper, NoMemory>
+        ensures faultless { IfOk result (λ keeper. keeper.in_file.in_file.faults ≡ 0) }
+        ensures quiet { IfOk result (λ keeper. keeper.in_file.in_file.database.cause ≡ None) }
+        ensures named { IfOk result (λ keeper. string_bytes keeper.in_file.in_file.database.path ≡ path.now) }
+        ensures waits { IfOk result (λ keeper. keeper.in_file.in_file.database.wait ≡ wait) }
+    {
+        let in_file = FileKeeper::at(alloc, rt, path, wait)?;
         Ok(SqliteKeeper { in_file })
     }
 
@@ -77,9 +93,9 @@ impl SqliteKeeper {
     pub(crate) fn read<C: Reading + Drop>(&mut self, call: C) -> Result<C::Answer, KeepFault>
         ensures answers { IfOk result C.answers }
         ensures does { AskedToRead ⟦<KeptPages as Pages>⟧ ⟦<KeptStore as Store>⟧
-            ⟦<KeptStore as Opens<KeptPages>>⟧.gives ⟦<KeptStore as Opens<KeptPages>>⟧.refuses
+            ⟦<KeptStore as Opens<KeptPages>>⟧.gives ⟦<KeptStore as Opens<KeptPages>>⟧.refuses ⟦<KeptStore as Opens<KeptPages>>⟧.there ⟦<KeptStore as Opens<KeptPages>>⟧.gone
             (C.takes call) (C.gives call) (C.shows ⟦<KeptStore as Store>⟧ call) (C.tells call)
-            self.old.in_file.in_file.database.kept (string_bytes self.old.in_file.in_file.database.path)
+            self.old.in_file.in_file.database.places self.old.in_file.in_file.database.kept (string_bytes self.old.in_file.in_file.database.path)
             self.new.in_file.in_file.database.kept self.new.in_file.in_file.database.cause result }
         ensures tried { TriesPath ⟦<KeptStore as Store>⟧ ⟦<KeptStore as Opens<KeptPages>>⟧.gives
             ⟦<KeptStore as Opens<KeptPages>>⟧.refuses
@@ -94,10 +110,11 @@ impl SqliteKeeper {
     pub(crate) fn put<C: Putting + Drop>(&mut self, call: C) -> Result<(), KeepFault>
         requires { C.fits call }
         ensures does { AskedToPut ⟦<KeptPages as Pages>⟧ ⟦<KeptStore as Store>⟧
-            ⟦<KeptStore as Opens<KeptPages>>⟧.gives ⟦<KeptStore as Opens<KeptPages>>⟧.refuses
+            ⟦<KeptStore as Opens<KeptPages>>⟧.gives ⟦<KeptStore as Opens<KeptPages>>⟧.refuses ⟦<KeptStore as Opens<KeptPages>>⟧.there ⟦<KeptStore as Opens<KeptPages>>⟧.gone
             (PutsInto ⟦<KeptStore as Store>⟧ (C.room call) (C.asks call) (C.next call)
             (C.finds call) (C.makes call))
             (C.writes call) (C.asks call) (C.next call)
+            self.old.in_file.in_file.database.places self.new.in_file.in_file.database.places
             self.old.in_file.in_file.database.kept (string_bytes self.old.in_file.in_file.database.path)
             self.new.in_file.in_file.database.kept self.new.in_file.in_file.database.cause result }
         ensures tried { TriesPath ⟦<KeptStore as Store>⟧ ⟦<KeptStore as Opens<KeptPages>>⟧.gives

@@ -1,5 +1,5 @@
 // The ways in which the file at a path is opened.
-ghost use Rattle.std.specs.Prelude.{◌≡◌, None, IfOk, IfErr, IfSome};
+ghost use Rattle.std.specs.Prelude.{◌≡◌, None, IfOk, IfErr, IfSome, OnOk};
 ghost use Rattle.keep_files.specs.Looks.{AreFound, FindsTrees};
 ghost use Rattle.keep_files.specs.Openings.{FromPath, FromPages, FromStore, IfWhole};
 ghost use Rattle.keep_files.specs.Openings.{AsTrees, AsWhole, put_part, read_part};
@@ -8,6 +8,7 @@ use crate::at_path::AtPath;
 use crate::cause::Cause;
 use crate::kept::Kept;
 use crate::page_files::{listed_again, open_to_read, opened_whole, stored};
+use crate::place::Places;
 use crate::shuts::Shuts;
 use keep_trees::PageTrees;
 use sqlite::{Connection, FileStore};
@@ -20,6 +21,8 @@ use std::rt::HostRuntime;
 pub trait Opens<P: Pages + Drop>: Shuts {
     ghost use Rattle.keep_files.specs.Openings.{Opening, Part};
     ghost use Rattle.keep_files.specs.declared.cause.Cause.{Cause};
+    ghost use Rattle.keep_files.specs.declared.place.Places.{Places};
+    ghost use Rattle.std.specs.Prelude.{ℕ, List};
 
     /// What is known where something is opened, and gave that.
     ghost gives: { Opening P Self → Part P Self → Type 0 };
@@ -30,8 +33,28 @@ pub trait Opens<P: Pages + Drop>: Shuts {
     /// What is known where something is opened and found not to be exactly ours.
     ghost foreign: { Opening P Self → Type 0 };
 
-    /// The trees of the file at a path where it is exactly ours, or else the file whole.
-    fn to_read(rt: &HostRuntime, path: &str) -> Result<Kept<PageTrees<P>, Connection<Self>>, Cause>
+    /// What is known where the files at a path are found where they lay.
+    ghost there: { List ℕ → Places → Type 0 };
+
+    /// What is known where they are not, for a cause.
+    ghost gone: { List ℕ → Places → Cause → Type 0 };
+
+    /// Where the files at a path lie. It is refused where the database lay elsewhere before.
+    fn places(rt: &HostRuntime, path: &str, before: &Option<Places>) -> Result<Places, Cause>
+        ensures { IfErr result (refuses (FromPath path.now)) };
+
+    /// Looks whether the files at a path are where they lay.
+    fn look(rt: &HostRuntime, path: &str, places: &Places) -> Result<(), Cause>
+        ensures there { OnOk result (there path.now places.now) }
+        ensures gone { IfErr result (gone path.now places.now) };
+
+    /// The trees of the file at a path where it is exactly ours, or else the file whole. Where another has it open, it
+    /// waits that number of seconds at most.
+    fn to_read(
+        rt: &HostRuntime,
+        path: &str,
+        wait: u32,
+    ) -> Result<Kept<PageTrees<P>, Connection<Self>>, Cause>
         ensures found { IfOk result (FindsTrees P.Pages) }
         ensures opened { IfOk result (λ kept. gives (FromPath path.now) (read_part kept)) }
         ensures refused { IfErr result (refuses (FromPath path.now)) };
@@ -65,11 +88,24 @@ impl<D: AtPath> Opens<Pool<D>> for FileStore<D> {
 
     ghost foreign = { λ _. Unit {0} };
 
+    ghost there = { D.AtPath.there };
+
+    ghost gone = { D.AtPath.gone };
+
+    fn places(rt: &HostRuntime, path: &str, before: &Option<Places>) -> Result<Places, Cause> {
+        D::places(rt, path, before)
+    }
+
+    fn look(rt: &HostRuntime, path: &str, places: &Places) -> Result<(), Cause> {
+        D::look(rt, path, places)
+    }
+
     fn to_read(
         rt: &HostRuntime,
         path: &str,
+        wait: u32,
     ) -> Result<Kept<PageTrees<Pool<D>>, Connection<FileStore<D>>>, Cause> {
-        open_to_read::<D>(rt, path)
+        open_to_read::<D>(rt, path, wait)
     }
 
     fn to_put(

@@ -4,7 +4,7 @@ ghost use Rattle.sqlite_wal.specs.PageSize.{bytes_of};
 ghost use Rattle.sqlite_wal.specs.Reads.{AreClean, OnlyReadsBoth};
 ghost use Rattle.sqlite_pages.specs.Calls.{Continues};
 ghost use Rattle.sqlite_pool.specs.Opening.{AreUsable, image};
-ghost use Rattle.sqlite_pool.specs.Pool.{files as files_in, state};
+ghost use Rattle.sqlite_pool.specs.Pool.{Follows, HasSpilled, files as files_in, log_frames, state, usable};
 ghost use Rattle.sqlite_pool.specs.Stored.{Recovers};
 ghost use Rattle.sqlite_store.specs.Unopened.{AreUsable as MayOpen, files_of, state_of, wanted_by};
 ghost use Rattle.sqlite.specs.Files.{image_of};
@@ -12,11 +12,13 @@ ghost use Rattle.keep_trees.specs.Pages.{our_trees};
 ghost use Rattle.keep_files.specs.Looks.{AreFound, FindsTrees};
 ghost use Rattle.keep_files.specs.Files.{AreLeft, FileGives, HaveOurForm, OfClosed, OfFiles, Shows, WereOpened};
 ghost use Rattle.keep_files.specs.Openings.{AsStore, AsTrees, AsWhole, FromPath, put_part, read_part};
-ghost use Rattle.keep_files.specs.Refusals.{AreRefused, RefusesFiles, RefusesPath};
+ghost use Rattle.keep_files.specs.Causes.{IsOfChecking};
+ghost use Rattle.keep_files.specs.Refusals.{AreRefused, IfFailed, IfForeign, RefusesFiles, RefusesPath};
 
 use crate::at_path::AtPath;
-use crate::cause::{Cause, cause_of};
+use crate::cause::{Cause, cause_of, cause_of_checking};
 use crate::kept::Kept;
+use crate::missed::Missed;
 use crate::objects::our_objects;
 use keep_trees::PageTrees;
 use sqlite::{Connection, FileStore, Files, Options};
@@ -24,8 +26,8 @@ use sqlite_disk::Disk;
 use sqlite_pager::Pager;
 use sqlite_pages::Pages;
 use sqlite_pool::Pool;
-use sqlite_store::Unopened;
-use sqlite_wal::{PageSize, probe_first_page, probe_page_size};
+use sqlite_store::{OpenError, Unopened};
+use sqlite_wal::{Error as WalError, PageSize, probe_first_page, probe_page_size};
 use std::alloc::Global;
 use std::rt::HostRuntime;
 
@@ -36,30 +38,43 @@ const PAGE_SIZE: usize = 4096;
 const NO_SUMS: u32 = 0x0040_2020;
 
 /// The size of the pages of files, where it is ours and the first page is that of a database whose pages have no sums.
-/// Nothing is written.
-fn our_page_size<D: Disk>(alloc: Global, files: &mut Files<D>) -> Option<PageSize>
+/// Nothing is written. Else why the first page could not be looked at, none where it is another's.
+fn our_page_size<D: Disk>(alloc: Global, files: &mut Files<D>) -> Result<PageSize, Option<Cause>>
     requires log { IsTrue (D.Disk.is_usable files.old.log) }
     requires db { IsTrue (D.Disk.is_usable files.old.db) }
     ensures log { IsTrue (D.Disk.is_usable files.new.log) }
     ensures db { IsTrue (D.Disk.is_usable files.new.db) }
     ensures reads { OnlyReadsBoth D.Disk (files.old.log, files.old.db) (files.new.log, files.new.db) }
-    ensures sized { IfSome result (λ size. bytes_of size ≡ 4096) }
-    ensures form { IfSome result (λ _. AreClean D.Disk files.new.log files.new.db
+    ensures failed { IfErr result (λ why. IfSome why IsOfChecking) }
+    ensures sized { IfOk result (λ size. bytes_of size ≡ 4096) }
+    ensures form { IfOk result (λ _. AreClean D.Disk files.new.log files.new.db
         → HaveOurForm (image_of D.Disk files.old)) }
 {
     let Ok(Some(size)) = probe_page_size(files) else {
-        return None;
+        return Err(None);
     };
     if size.bytes() != PAGE_SIZE {
-        return None;
+        return Err(None);
     }
-    let Ok(head) = probe_first_page(alloc, files, size) else {
-        return None;
+    let head = match probe_first_page(alloc, files, size) {
+        Ok(head) => head,
+        Err(error) => return Err(why_unread(error)),
     };
     if head.0 != b'S' || head.1 != NO_SUMS {
-        return None;
+        return Err(None);
     }
-    Some(size)
+    Ok(size)
+}
+
+/// Why a first page could not be looked at, none where the log beside it is another's.
+fn why_unread(error: WalError) -> Option<Cause>
+    ensures { IfSome result IsOfChecking }
+{
+    match error {
+        WalError::OutOfMemory => Some(cause_of_checking(OpenError::OutOfMemory, false)),
+        WalError::Io(_) => Some(cause_of_checking(OpenError::Io, false)),
+        _ => None,
+    }
 }
 
 /// The pages of files, of which nothing is read yet.
@@ -101,11 +116,34 @@ fn recovered<D: Disk>(mut pool: Pool<D>) -> Result<Pool<D>, Pool<D>>
     }
 }
 
-/// The trees of files that are exactly ours. Other files are given back, and what they hold is as it was.
+/// Pages, once what their log has was copied into their file, if that is asked for. They are given back where that
+/// failed.
+fn folded<D: Disk>(mut pool: Pool<D>, folds: bool) -> Result<Pool<D>, Pool<D>>
+    ensures kept { MatchResult result (Follows pool) (Follows pool) }
+    ensures same { IfOk result (λ folded. IsTrue (state folded).is_clean → usable folded ≡ usable pool) }
+    ensures empty { IfOk result (λ folded. IsTrue folds → ¬ HasSpilled pool → log_frames folded ≡ 0) }
+{
+    if !folds {
+        return Ok(pool);
+    }
+    match pool.checkpoint() {
+        Ok(()) => {
+            if pool.is_open() {
+                return Ok(pool);
+            }
+            Err(pool)
+        }
+        Err(_) => Err(pool),
+    }
+}
+
+/// The trees of files that are exactly ours, once what their log has was copied into their file, if that is asked for.
+/// Other files are given back, and what they hold is as it was.
 pub fn trees_of<D: Disk + Drop>(
     alloc: Global,
     mut files: Files<D>,
     seed: u64,
+    folds: bool,
 ) -> Result<PageTrees<Pool<D>>, Files<D>>
     requires log { IsTrue (D.Disk.is_usable files.log) }
     requires db { IsTrue (D.Disk.is_usable files.db) }
@@ -113,7 +151,7 @@ pub fn trees_of<D: Disk + Drop>(
     ensures opened { IfOk result (λ trees. OfFiles D.Disk files (AsTrees trees)) }
     ensures left { IfErr result (AreLeft D.Disk files) }
 {
-    let Some(size) = our_page_size(alloc, &mut files) else {
+    let Ok(size) = our_page_size(alloc, &mut files) else {
         return Err(files);
     };
     let pool = match pool_over(alloc, files, size, seed) {
@@ -121,6 +159,10 @@ pub fn trees_of<D: Disk + Drop>(
         Err(files) => return Err(files),
     };
     let pool = match recovered(pool) {
+        Ok(pool) => pool,
+        Err(pool) => return Err(pool.close()),
+    };
+    let pool = match folded(pool, folds) {
         Ok(pool) => pool,
         Err(pool) => return Err(pool.close()),
     };
@@ -186,7 +228,7 @@ pub fn open_whole<D: AtPath>(
     ensures refused { IfErr result
         (RefusesPath D.Disk D.AtPath.reaches D.AtPath.refuses D.AtPath.undrawn path.now) }
 {
-    match D::open(rt, path) {
+    match D::open(rt, path, 0) {
         Ok(files) => opened_whole(rt, files),
         Err(cause) => Err(cause),
     }
@@ -217,28 +259,44 @@ fn unopened_over<D: Disk + Drop>(
     }
 }
 
-/// The store of files whose pages and trees are sound and ours. Other files are given back.
+/// The store of files whose pages and trees are sound and ours. Other files are given back; where there was no memory
+/// for it, or the disk failed, they are let go.
 fn checked<D: Disk + Drop>(
     alloc: Global,
     mut files: Files<D>,
     seed: u64,
-) -> Result<FileStore<D>, Files<D>>
+) -> Result<FileStore<D>, Missed<Files<D>>>
     ensures opened { IfOk result (λ store. OfFiles D.Disk files (AsStore store)) }
-    ensures left { IfErr result (AreLeft D.Disk files) }
+    ensures left { IfErr result (IfForeign (AreLeft D.Disk files)) }
+    ensures failed { IfErr result (IfFailed IsOfChecking) }
 {
     if !files.may_be_used() {
-        return Err(files);
+        return Err(Missed::Foreign(files));
     }
-    let Some(size) = our_page_size(alloc, &mut files) else {
-        return Err(files);
+    let size = match our_page_size(alloc, &mut files) {
+        Ok(size) => size,
+        Err(None) => return Err(Missed::Foreign(files)),
+        Err(Some(cause)) => {
+            drop(files);
+            return Err(Missed::Failed(cause));
+        }
     };
+    let before = files.tally().refused;
     let unopened = match unopened_over(alloc, files, size, seed) {
         Ok(unopened) => unopened,
-        Err(files) => return Err(files),
+        Err(files) => {
+            drop(files);
+            return Err(Missed::Failed(cause_of_checking(OpenError::OutOfMemory, false)));
+        }
     };
     match unopened.open() {
         Ok(store) => Ok(store),
-        Err((_, unopened)) => Err(unopened.close()),
+        Err((OpenError::Refused, unopened)) => Err(Missed::Foreign(unopened.close())),
+        Err((error, unopened)) => {
+            let no_room = before < unopened.tally().refused;
+            drop(unopened.close());
+            Err(Missed::Failed(cause_of_checking(error, no_room)))
+        }
     }
 }
 
@@ -256,7 +314,8 @@ pub fn stored<D: AtPath>(
     };
     let files = match checked(rt.alloc(), files, seed) {
         Ok(store) => return Ok(Kept::Trees(store)),
-        Err(files) => files,
+        Err(Missed::Foreign(files)) => files,
+        Err(Missed::Failed(cause)) => return Err(cause),
     };
     match connected(rt, files, seed) {
         Ok(conn) => Ok(Kept::Whole(conn)),
@@ -264,7 +323,8 @@ pub fn stored<D: AtPath>(
     }
 }
 
-/// The trees of files that a store gave back, if they are exactly ours. Else the files are let go.
+/// The trees of files that a store gave back, if they are exactly ours, once what their log has was copied into their
+/// file. Else the files are let go.
 pub fn listed_again<D: AtPath>(rt: &HostRuntime, files: Files<D>) -> Option<PageTrees<Pool<D>>>
     ensures found { IfSome result (AreFound ⟦<Pool<D> as Pages>⟧) }
     ensures opened { IfSome result (λ trees. OfClosed D.Disk files (AsTrees trees)) }
@@ -275,16 +335,18 @@ pub fn listed_again<D: AtPath>(rt: &HostRuntime, files: Files<D>) -> Option<Page
     let Ok(seed) = D::draw(rt) else {
         return None;
     };
-    match trees_of(rt.alloc(), files, seed) {
+    match trees_of(rt.alloc(), files, seed, true) {
         Ok(trees) => Some(trees),
         Err(_) => None,
     }
 }
 
-/// The trees of the file at a path where it is exactly ours, or else the file whole.
+/// The trees of the file at a path where it is exactly ours, or else the file whole. Where another has it open, it waits
+/// that number of seconds at most.
 pub fn open_to_read<D: AtPath>(
     rt: &HostRuntime,
     path: &str,
+    wait: u32,
 ) -> Result<Kept<PageTrees<Pool<D>>, Connection<FileStore<D>>>, Cause>
     ensures found { IfOk result (FindsTrees ⟦<Pool<D> as Pages>⟧) }
     ensures opened { IfOk result (λ kept. FileGives D.Disk D.AtPath.reaches (FromPath path.now) (read_part kept)) }
@@ -295,11 +357,11 @@ pub fn open_to_read<D: AtPath>(
         Ok(seed) => seed,
         Err(cause) => return Err(cause),
     };
-    let files = match D::open(rt, path) {
+    let files = match D::open(rt, path, wait) {
         Ok(files) => files,
         Err(cause) => return Err(cause),
     };
-    let files = match trees_of(rt.alloc(), files, seed) {
+    let files = match trees_of(rt.alloc(), files, seed, false) {
         Ok(trees) => return Ok(Kept::Trees(trees)),
         Err(files) => files,
     };

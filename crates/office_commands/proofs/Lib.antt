@@ -26,3 +26,4 @@ pub mod StartLaws
 pub mod LimitLaws
 pub mod RunLaws
 pub mod CheckLaws
+pub mod SumLaws

@@ -14,7 +14,7 @@ use Rattle.office_commands.specs.declared.closing.Closing.TheVariants.{PastStore
 use Rattle.office_commands.specs.declared.closing.Closing.TheVariants.{PastRefused, DayPassed, DiffersDay, NoDay}
 use Rattle.office_commands.specs.declared.closing.Closing.TheVariants.{PastLate, PastKept, DiffersPast, ReadFault}
 use Rattle.office_commands.specs.declared.closing.Closing.TheVariants.{KeeperFault, DiffersLine, NoMemory, Rehearsed}
-use Rattle.office_commands.specs.declared.closing.Closing.TheVariants.{Listed, Checked}
+use Rattle.office_commands.specs.declared.closing.Closing.TheVariants.{Listed, Unsound, Checked}
 
 -- how a line of notices is named
 abbrev pub entry_text : EntryText → List ℕ
@@ -108,6 +108,7 @@ closing_line (Rehearsed bytes digest tuples notices notices_digest total) =
     rehearsed_line bytes (encode_lower digest.bytes) tuples
     (rehearsed_end notices (encode_lower notices_digest.bytes) total)
 closing_line (Listed days last) = codes "# days " ++ (decimal days ++ (codes " last " ++ (decimal last ++ codes "\n")))
+closing_line (Unsound day) = codes "# unsound day " ++ (decimal day ++ codes "\n")
 closing_line (Checked day good refused) =
     codes "# checked day "
     ++ (decimal day ++ (codes " good " ++ (decimal good ++ (codes " refused " ++ (decimal refused ++ codes "\n")))))
@@ -136,4 +137,5 @@ status_of (DiffersLine line wanted found) = 7
 status_of NoMemory = 8
 status_of (Rehearsed bytes digest tuples notices notices_digest total) = 0
 status_of (Listed days last) = 0
+status_of (Unsound day) = 7
 status_of (Checked day good refused) = if refused == 0 then 0 else 2

@@ -13,7 +13,7 @@ use Rattle.day_reading.specs.declared.whole.CheckStop.TheVariants as checks
 use Rattle.office_reports.specs.declared.report_fault.ReportFault.{ReportFault}
 use Rattle.office_reports.specs.declared.report_fault.ReportFault.TheVariants as reports
 use Rattle.office_commands.specs.declared.closing.Closing.{Closing}
-use Rattle.office_commands.specs.declared.closing.Closing.TheVariants.{NoDay, ReadFault, KeeperFault, NoMemory}
+use Rattle.office_commands.specs.declared.closing.Closing.TheVariants.{NoDay, Unsound, ReadFault, KeeperFault, NoMemory}
 use Rattle.office_commands.specs.Closings.{closing_line, status_of}
 use Rattle.office_commands.specs.Commands.{Answer}
 
@@ -98,6 +98,7 @@ abbrev pub EndsReport : ℕ → Result (Unit {0}) ReportFault → Result (Option
 EndsReport day (Ok u) (Ok c) = c ≡ None
 EndsReport day (Err reports.NoDay) (Ok c) = c ≡ Some (NoDay day)
 EndsReport day (Err reports.KeeperFault) (Ok c) = c ≡ Some KeeperFault
+EndsReport day (Err (reports.Unsound unsound)) (Ok c) = c ≡ Some (Unsound unsound)
 EndsReport day (Err reports.WriteFault) (Ok c) = ⊥
 EndsReport day (Err reports.WriteFault) (Err e) = Unit {0}
 EndsReport day (Err reports.NoMemory) (Ok c) = c ≡ Some NoMemory

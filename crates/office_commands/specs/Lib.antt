@@ -14,4 +14,7 @@ pub mod Uses
 pub mod Faults
 pub mod Endings
 pub mod Rests
+pub mod Sums
 pub mod Starts
+-- What a run promises, object by object
+pub mod Ran

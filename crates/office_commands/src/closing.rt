@@ -127,6 +127,10 @@ pub enum Closing {
         days: u64,
         last: u32,
     },
+    /// The amounts that are kept of a day do not come to its total.
+    Unsound {
+        day: u32,
+    },
     /// The lines of a day were checked: so many are good, so many refused.
     Checked {
         day: u32,
@@ -170,6 +174,7 @@ impl Closing {
             Closing::NoMemory => 8,
             Closing::Rehearsed { .. } => 0,
             Closing::Listed { .. } => 0,
+            Closing::Unsound { .. } => 7,
             Closing::Checked { refused, .. } => status_of_check(refused),
         }
     }
@@ -249,6 +254,7 @@ impl Closing {
                 );
             }
             Closing::Listed { days, last } => return days_line(alloc, days, last),
+            Closing::Unsound { day } => format!(in alloc; "# unsound day {day}\n")?,
             Closing::Checked { day, good, refused } => {
                 return checked_line(alloc, day, good, refused);
             }

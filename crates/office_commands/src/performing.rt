@@ -8,6 +8,7 @@ ghost use Rattle.office_words.specs.Meaning.{IsInRange};
 ghost use Rattle.office_commands.specs.Endings.{Wrote, Keeps, Did, HoldsSame, code_of};
 ghost use Rattle.office_commands.specs.Rests.{LeavesAsKept, ReadsAsked};
 ghost use Rattle.office_commands.specs.declared.closing.Closing.TheVariants.{ReadFault, KeeperFault, Words};
+ghost use Rattle.office_commands.specs.Sums.{WroteSound};
 ghost use Rattle.office_commands.specs.Uses.{IsTold, IsRightCrew, IsRightAside, SourceTells, KeeperTells, uses_crew};
 ghost use Rattle.office_commands.specs.Uses.{uses_source, uses_aside, uses_keeper, changes_kept, AsksPassed, PutsAsked};
 ghost use Rattle.office_commands.specs.Uses.{most_of, most_aside_of};
@@ -66,6 +67,7 @@ pub(crate) fn perform<S: Source, A: Source, O: Sink, K: Keeper, C: Crew, R: Thre
         → K.told keeper.old ≡ Some o
         → Did K.refuses (office_answer limits.now bytes lines o (Some command)) o (O.written sink.old)
         (O.written sink.new) (K.told keeper.new) result }
+    ensures sums { WroteSound (Some command) result (O.written sink.old) (O.written sink.new) }
     ensures puts { (o : Office) → K.told keeper.old ≡ Some o → PutsAsked (Some command) o (K.told keeper.new) }
     ensures unchanged { (o : Office) → K.told keeper.old ≡ Some o → changes_kept (Some command) ≡ false
         → K.told keeper.new ≡ Some o }

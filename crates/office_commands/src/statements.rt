@@ -1,9 +1,11 @@
 // The commands `day DAY`, `vehicle VID FROM TO`, `export DAY` and `charges FROM TO`: what is kept, as texts.
-ghost use Rattle.std.specs.Prelude.{◌≡◌, ◌≢◌, Some, Ok, Err, OnErr, IsErr};
+ghost use Rattle.std.specs.Prelude.{◌≡◌, ◌≢◌, Some, None, Ok, Err, OnErr, IsErr};
 ghost use Rattle.keep_office.specs.Office.{Office};
 ghost use Rattle.office_reports.specs.declared.report_fault.ReportFault.TheVariants as report_fault;
 ghost use Rattle.office_commands.specs.Commands.{day_command, vehicle_command, export_command, charges_command};
-ghost use Rattle.office_commands.specs.Endings.{Wrote, Keeps, EndsReport};
+ghost use Rattle.office_commands.specs.Endings.{Wrote, Keeps, EndsReport, code_of};
+ghost use Rattle.office_reports.specs.Endings.{AddsUp};
+ghost use Rattle.office_reports.specs.Statements.{day_text};
 ghost use Rattle.office_commands.specs.declared.closing.Closing.TheVariants.{ReadFault, KeeperFault, Words};
 ghost use Rattle.road_io.specs.Blame.{FaultsByPlan, FaultsByRoom};
 
@@ -27,6 +29,7 @@ fn reported(day: u32, done: Result<(), ReportFault>) -> Result<Option<Closing>, 
         Ok(()) => Ok(None),
         Err(ReportFault::NoDay) => Ok(Some(Closing::NoDay { day })),
         Err(ReportFault::KeeperFault) => Ok(Some(Closing::KeeperFault)),
+        Err(ReportFault::Unsound { day }) => Ok(Some(Closing::Unsound { day })),
         Err(ReportFault::WriteFault) => Err(Failed),
         Err(ReportFault::NoMemory) => Ok(Some(Closing::NoMemory)),
     }
@@ -43,6 +46,7 @@ pub fn day<O: Sink, K: Keeper>(
         → Wrote (day_command day o) result (O.written sink.old) (O.written sink.new) }
     ensures keeps { (o : Office) → K.told keeper.old ≡ Some o
         → Keeps K.refuses (day_command day o) o (K.told keeper.new) result }
+    ensures sums { code_of result ≡ 0 → (result ≡ Ok None) × AddsUp day_text (O.written sink.old) (O.written sink.new) }
     ensures kept { K.told keeper.new ≡ K.told keeper.old }
     ensures said { result ≢ Ok (Some Words) }
     ensures unread { result ≢ Ok (Some ReadFault) }

@@ -1,45 +1,71 @@
 -- How the command `renew BASE` ends, and what it writes.
-use Rattle.std.specs.Prelude.{◌≡◌, ◌≢◌, ◌⊎◌, ◌<◌, ◌≤◌, ℕ, Bool, List, ◌++◌, length, take, codes, Option, Some, Result}
+use Rattle.std.specs.Prelude.{◌≡◌, ◌⊎◌, ◌<◌, ℕ, List, ◌++◌, length, take, codes, Option, Some, None, Result}
 use Rattle.std.specs.Prelude.{Ok, Err}
 use Rattle.std.specs.Fmt.{decimal}
 use Rattle.std.specs.Io.KnownBytes.{Appends}
-use Rattle.road_io.specs.Faults.{Rose}
-use Rattle.road_io.specs.Plans.{NeverFails}
+use Rattle.road_time.specs.declared.day.SpentRow.{SpentRow}
 use Rattle.keep_office.specs.declared.kept.KeepFault.{KeepFault}
 use Rattle.keep_office.specs.declared.kept.KeepFault.TheVariants as keeping
-use Rattle.keep_office.specs.Office.{Office}
 use Rattle.keep_office.specs.declared.renewing.Renewal.{Renewal}
 use Rattle.keep_office.specs.declared.renewing.Renewal.TheVariants as ends
-use Rattle.keep_office.specs.Renewals.{RenewAnswer, renew_answer}
 use Rattle.office_ends.specs.declared.ending.Ending.{Ending}
-use Rattle.office_ends.specs.declared.ending.Ending.TheVariants.{Begun, Early, Unfit, KeeperFault, NoMemory}
+use Rattle.office_ends.specs.declared.ending.Ending.TheVariants.{Begun, Early, Drops, Unfit, KeeperFault, NoMemory}
 
--- how the command ends by how a renewal does
-abbrev pub ending_of : Renewal → Ending
-ending_of (ends.Renewed kept) = Begun kept.base kept.rows
-ending_of (ends.Early last) = Early last
-ending_of ends.Unfit = Unfit
+-- how the command ends by how a renewal does, before which so many amounts went and of which this one may not fit
+abbrev pub ending_of : ℕ → Option SpentRow → Renewal → Ending
+ending_of dropped unfit (ends.Renewed kept) = Begun kept.base kept.rows dropped
+ending_of dropped unfit (ends.Early last) = Early last
+ending_of dropped unfit ends.Unfit = Unfit unfit
+
+-- how it ends where a call fails
+abbrev pub failing : KeepFault → Ending
+failing keeping.Failed = KeeperFault
+failing keeping.NoMemory = NoMemory
 
 -- the same where a call may have failed
-abbrev pub ending_by : Result Renewal KeepFault → Ending
-ending_by (Ok outcome) = ending_of outcome
-ending_by (Err keeping.Failed) = KeeperFault
-ending_by (Err keeping.NoMemory) = NoMemory
+abbrev pub ending_by : ℕ → Option SpentRow → Result Renewal KeepFault → Ending
+ending_by dropped unfit (Ok outcome) = ending_of dropped unfit outcome
+ending_by dropped unfit (Err fault) = failing fault
+
+-- the line of an office that began anew
+abbrev pub begun_line : ℕ → ℕ → ℕ → List ℕ
+begun_line base rows dropped =
+    codes "# renewed base "
+    ++ (decimal base
+    ++ (codes " rows " ++ (decimal rows ++ (codes " dropped " ++ (decimal dropped ++ codes "\n")))))
+
+-- the line of a base that is not above the last day
+abbrev pub early_line : ℕ → List ℕ
+early_line last = codes "# renew early last " ++ (decimal last ++ codes "\n")
+
+-- the line of amounts that would go
+abbrev pub drops_line : ℕ → List ℕ
+drops_line rows = codes "# renew drops rows " ++ (decimal rows ++ codes "\n")
+
+-- the line of an amount that no history may have
+abbrev pub unfit_line : SpentRow → List ℕ
+unfit_line r =
+    codes "# renew unfit day "
+    ++ (decimal r.day
+    ++ (codes " vid "
+    ++ (decimal r.vid ++ (codes " xway " ++ (decimal r.xway ++ (codes " tolls " ++ (decimal r.tolls ++ codes "\n")))))))
 
 -- the closing line, with its LF
 abbrev pub ending_line : Ending → List ℕ
-ending_line (Begun base rows) =
-    codes "# renewed base " ++ (decimal base ++ (codes " rows " ++ (decimal rows ++ codes "\n")))
-ending_line (Early last) = codes "# renew early last " ++ (decimal last ++ codes "\n")
-ending_line Unfit = codes "# renew unfit\n"
+ending_line (Begun base rows dropped) = begun_line base rows dropped
+ending_line (Early last) = early_line last
+ending_line (Drops rows) = drops_line rows
+ending_line (Unfit None) = codes "# renew unfit\n"
+ending_line (Unfit (Some row)) = unfit_line row
 ending_line KeeperFault = codes "# keeper fault\n"
 ending_line NoMemory = codes "# no memory\n"
 
 -- the status that it goes with
 abbrev pub status_of : Ending → ℕ
-status_of (Begun base rows) = 0
+status_of (Begun base rows dropped) = 0
 status_of (Early last) = 3
-status_of Unfit = 3
+status_of (Drops rows) = 3
+status_of (Unfit row) = 3
 status_of KeeperFault = 6
 status_of NoMemory = 8
 
@@ -48,18 +74,3 @@ abbrev pub Closes : Ending → ℕ → Option (List ℕ) → Option (List ℕ) �
 Closes e status old new =
     ((status ≡ status_of e) × Appends old new (ending_line e))
     ⊎ ((status ≡ 5) × ((k : ℕ) × (k < length (ending_line e)) × Appends old new (take k (ending_line e))))
-
--- the command ended as it should, with its closing line alone, and the office is as it should be; or it says of what it
--- wants that it failed
-abbrev pub DoesCommand : RenewAnswer → Option Office → ℕ → Option (List ℕ) → Option (List ℕ) → Type 0
-DoesCommand a now status old new =
-    status ≢ 5 → status ≢ 6 → status ≢ 8 → (status ≡ status_of (ending_of a.outcome))
-    × Appends old new (ending_line (ending_of a.outcome)) × (now ≡ Some a.office)
-
--- the count of the keeper's faults never falls, rose where the status says that it failed, and stands where the command
--- ended well or was refused; a keeper that plans no failing call does not fail
-pub record FaultsTold (before now : ℕ) (plan : Option (ℕ → Bool)) (status : ℕ) : Type 0 where
-  pub later : before ≤ now
-  pub cause : status ≡ 6 → Rose before now
-  pub still : status ≢ 5 → status ≢ 6 → status ≢ 8 → now ≡ before
-  pub sure : NeverFails plan → status ≢ 6

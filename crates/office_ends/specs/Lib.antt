@@ -2,4 +2,7 @@
 pub mod Says
 -- The command `renew BASE`: its words, and how it ends.
 pub mod Words
+pub mod Drops
 pub mod Endings
+
+-- What a run promises, object by object.

@@ -1,3 +1,4 @@
+pub mod AddLaws
 pub mod LineLaws
 pub mod WayLaws
 pub mod EndingLaws

@@ -1,8 +1,8 @@
 -- Lists that go by days, a day more at a time.
 use Rattle.std.proofs.Common.{◌≡◌, ℕ, ◌+◌, ◌<◌, ◌≤◌, ◌==◌, ◌&&◌, nat_le, nat_lt, min, max, ⊎_elim, true, false, List}
 use Rattle.std.proofs.Common.{[]}
-use Rattle.std.proofs.Common.{◌∷◌, ◌++◌, map, find, Option, Some, refl, sym, ap, ap₂, ◌∙◌, arith}
-use Rattle.std.specs.List.{AllByRecursion, cons_option, filter, fold}
+use Rattle.std.proofs.Common.{◌∷◌, ◌++◌, map, find, Option, refl, sym, ap, ap₂, ◌∙◌, arith}
+use Rattle.std.specs.List.{AllByRecursion, cons_option, fold}
 use Rattle.std.specs.List.Sorted.{IsStrictlySortedBy}
 use Rattle.std.specs.declared.cmp.Ordering.{Ordering}
 use Rattle.std.specs.declared.cmp.Ordering.TheVariants.{Less, Equal, Greater}
@@ -20,7 +20,7 @@ use Rattle.keep_office.specs.Office.{IsSound}
 use Rattle.keep_office.proofs.ListFacts.{none_pass, pass_same}
 use Rattle.keep_office.proofs.SoundLaws.{greatest_least, rows_last}
 use Rattle.office_reports.specs.Spans.{in_span, on_day}
-use Rattle.office_reports.specs.Charges.{Sums, with_amount, sums_of}
+use Rattle.office_reports.specs.Charges.{with_amount, sums_of}
 
 -- ---- the tests
 

@@ -1,5 +1,5 @@
 -- What the worked rows put may be put.
-use Rattle.std.proofs.Common.{◌≡◌, ℕ, [], ◌∷◌, refl, arith}
+use Rattle.std.proofs.Common.{◌≡◌, [], ◌∷◌, refl, arith}
 use Rattle.road_time.specs.declared.day.SpentRow.{SpentRow}
 use Rattle.road_digest.specs.declared.digest.Digest.{Digest}
 use Rattle.keep_office.specs.declared.kept.DayRecord.{DayRecord}

@@ -2,6 +2,7 @@
 //! what is kept of it; and of all days, their list and what they charge.
 #![tactic(auto)]
 
+mod adding;
 mod charge_lines;
 mod charge_sums;
 mod charged;

@@ -1,10 +1,10 @@
 // The statement of a vehicle.
-ghost use Rattle.std.specs.Prelude.{◌≡◌, ◌≢◌, Some, Err};
+ghost use Rattle.std.specs.Prelude.{◌≡◌, ◌≢◌, ℕ, Some, Err};
 ghost use Rattle.road_io.specs.Blame.{FaultsByPlan, FaultsByRoom};
 ghost use Rattle.keep_office.specs.Office.{Office};
 ghost use Rattle.office_reports.specs.Endings.{WroteText};
 ghost use Rattle.office_reports.specs.Statements.{vehicle_report};
-ghost use Rattle.office_reports.specs.declared.report_fault.ReportFault.TheVariants.{NoDay, KeeperFault, WriteFault};
+ghost use Rattle.office_reports.specs.declared.report_fault.ReportFault.TheVariants.{NoDay, KeeperFault, Unsound, WriteFault};
 
 use crate::putting::put_text;
 use crate::report_fault::{ReportFault, refused};
@@ -27,7 +27,7 @@ pub fn vehicle_statement<K: Keeper, O: Sink>(
 ) -> Result<(), ReportFault>
     ensures wrote { (o : Office) → K.told keeper.old ≡ Some o
         → WroteText result (O.written sink.old) (O.written sink.new) (vehicle_report vid from to o) }
-    ensures own { result ≢ Err NoDay }
+    ensures own { (result ≢ Err NoDay) × ((d : ℕ) → result ≢ Err (Unsound d)) }
     ensures kept { K.told keeper.new ≡ K.told keeper.old }
     ensures keeper { FaultsByPlan (K.faults keeper.old) (K.faults keeper.new) (K.plan keeper.old)
         (result ≡ Err KeeperFault) }

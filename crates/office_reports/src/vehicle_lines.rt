@@ -36,7 +36,7 @@ fn total_line(alloc: Global, sum: u128) -> Result<String, NoMemory>
 }
 
 /// What amounts come to.
-fn sum_of(rows: &[SpentRow]) -> u128
+pub(crate) fn sum_of(rows: &[SpentRow]) -> u128
     ensures { result ≡ sum_of_rows rows.now }
 {
     let mut sum: u128 = 0;

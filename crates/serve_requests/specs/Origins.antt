@@ -18,11 +18,17 @@ abbrev pub is_own_host : List ℕ → Bool
 is_own_host host =
     is_host_of (codes "127.0.0.1") host || (is_host_of (codes "localhost") host || is_host_of (codes "[::1]") host)
 
--- a field that names the page's origin, or another host than this machine
+-- a browser tells that a page of this server asked for a request, or that none did
+abbrev pub is_own_site : List ℕ → Bool
+is_own_site site =
+    str_eq_ignore_ascii_case site (codes "same-origin") || str_eq_ignore_ascii_case site (codes "none")
+
+-- a field that names the page's origin, another host than this machine, or the page of another site
 abbrev pub is_foreign_field : List ℕ × List ℕ → Bool
 is_foreign_field field =
     str_eq_ignore_ascii_case field.0 (codes "Origin")
-    || (str_eq_ignore_ascii_case field.0 (codes "Host") && not (is_own_host field.1))
+    || ((str_eq_ignore_ascii_case field.0 (codes "Host") && not (is_own_host field.1))
+    || (str_eq_ignore_ascii_case field.0 (codes "Sec-Fetch-Site") && not (is_own_site field.1)))
 
 -- a head with such a field
 abbrev pub is_foreign : List (List ℕ × List ℕ) → Bool

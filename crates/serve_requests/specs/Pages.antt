@@ -14,13 +14,14 @@ page_front = FRONT.now ++ (STYLE.now ++ BODY.now)
 unfoldable pub whole_page : List ℕ
 whole_page = page_front ++ (ASKING.now ++ (SHOWING.now ++ END.now))
 
--- the answer that has a page: its status line, three fields, an empty line and the page
+-- the answer that has a page: its status line, its fields, an empty line and the page; no other page may hold it, its type is
+-- as told, and no browser keeps it
 abbrev pub page_reply : List ℕ → List ℕ
 page_reply text =
     status_line 200
     ++ (codes "\r\n"
     ++ (length_field text
-    ++ (codes "\r\nContent-Type: text/html; charset=utf-8\r\nConnection: close\r\n\r\n" ++ text)))
+    ++ (codes "\r\nContent-Type: text/html; charset=utf-8\r\nX-Frame-Options: DENY\r\nX-Content-Type-Options: nosniff\r\nCache-Control: no-store\r\nConnection: close\r\n\r\n" ++ text)))
 
 -- the answer that has the page
 unfoldable pub page_bytes : List ℕ

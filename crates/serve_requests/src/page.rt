@@ -38,7 +38,7 @@ fn page_reply(alloc: Global, page: &str) -> Result<String, NoMemory>
     let line = status_line(alloc, StatusCode::OK)?;
     let length = length_field(alloc, page)?;
     Ok(format!(in alloc;
-        "{line}\r\n{length}\r\nContent-Type: text/html; charset=utf-8\r\nConnection: close\r\n\r\n{page}"
+        "{line}\r\n{length}\r\nContent-Type: text/html; charset=utf-8\r\nX-Frame-Options: DENY\r\nX-Content-Type-Options: nosniff\r\nCache-Control: no-store\r\nConnection: close\r\n\r\n{page}"
     )?)
 }
 

@@ -8,7 +8,7 @@ use std::io::{ErrorKind, Read};
 use std::time::{Duration, Instant};
 
 /// How many bytes are dropped at most.
-const MOST_DROPPED: usize = 1_048_576;
+const MOST_DROPPED: usize = 67_108_864;
 
 /// For how many seconds bytes are dropped.
 const DRAIN_SECONDS: u64 = 2;
@@ -16,12 +16,17 @@ const DRAIN_SECONDS: u64 = 2;
 /// How many bytes are dropped at once.
 const PIECE: usize = 8192;
 
-/// A connection that was answered: when it came back, and how many bytes of it may still be dropped.
+/// How many times a connection is read before others are heard.
+const PIECES: usize = 32;
+
+/// A connection that was answered: when it came back, how many bytes of it may still be dropped, and whether more of them
+/// may be there at once.
 #[derive(Drop)]
 pub(crate) struct Drain {
     pub(crate) stream: TcpStream,
     since: Instant,
     room: usize,
+    pub(crate) more: bool,
 }
 
 /// What a read comes to whose bytes are dropped.
@@ -58,29 +63,32 @@ fn drop_once<R: Read>(reader: &mut R, room: &mut usize) -> Dropped
 impl Drain {
     /// Nothing was dropped as yet.
     pub(crate) fn new(stream: TcpStream, since: Instant) -> Drain
-        ensures room { result.room ≡ 1048576 }
+        ensures room { result.room ≡ 67108864 }
         ensures since { result.since ≡ since }
     {
         Drain {
             stream,
             since,
             room: MOST_DROPPED,
+            more: false,
         }
     }
 
-    /// Reads and drops what is there, and says whether more may come.
+    /// Reads and drops what is there, for a while, and says whether more may come.
     pub(crate) fn hear(&mut self) -> bool
         ensures room { self.new.room ≤ self.old.room }
         ensures since { self.new.since ≡ self.old.since }
     {
-        for _ in 0..MOST_DROPPED {
+        self.more = false;
+        for _ in 0..PIECES {
             match drop_once(&mut self.stream, &mut self.room) {
                 Dropped::Open => return true,
                 Dropped::More => {}
                 Dropped::Over => return false,
             }
         }
-        false
+        self.more = true;
+        true
     }
 
     /// Whether its time is over.

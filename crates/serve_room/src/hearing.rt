@@ -1,31 +1,41 @@
 // What happens to connections in their seats.
-ghost use Rattle.serve_room.specs.Judged.{IsJudged, AreJudged};
+ghost use Rattle.std.specs.Prelude.{◌≡◌};
+ghost use Rattle.serve_room.specs.Judged.{is_late, judged, AreJudged};
 
 use crate::draining::Drain;
 use crate::seat::Seat;
 use mio::Events;
 use std::time::Instant;
 
-/// How many connections wait at once.
-pub(crate) const SEATS: usize = 1024;
+/// How many connections wait at once. With those that are drained they leave 176 of the 1,024 file handles that a process
+/// usually has: two for each of 64 acceptors, and some for the database, its log, the listener and the poll.
+pub(crate) const SEATS: usize = 720;
 
 /// How many connections that were answered are drained at once.
-pub(crate) const DRAINS: usize = 1024;
+pub(crate) const DRAINS: usize = 128;
 
 /// The first token of a connection that is drained, behind those of the seats, of the listener and of the waker.
 pub(crate) const FIRST_DRAIN: usize = SEATS + 2;
 
-/// Hears a connection in a seat, and notes where its end is heard.
-fn hear_seat(seats: &mut [Option<Seat>], at: usize, ends: bool, now: Instant) {
-    if let Some(Some(seat)) = seats.get_mut(at) {
-        seat.hear();
-        if ends {
-            seat.note_end(now);
+/// Hears a connection in a seat, and says whether it keeps that.
+fn keeps(place: &mut Option<Seat>) -> bool {
+    match place {
+        Some(seat) => seat.hear(),
+        None => false,
+    }
+}
+
+/// Hears a connection in a seat, which it leaves where nothing can be answered. Whoever only ends what it sends is still
+/// answered.
+fn hear_seat(seats: &mut [Option<Seat>], at: usize, fails: bool) {
+    if let Some(place) = seats.get_mut(at) {
+        if fails || !keeps(place) {
+            *place = None;
         }
     }
 }
 
-/// Hears a connection that is drained, and says whether more is to come.
+/// Hears a connection that is drained, and says whether it stays.
 fn goes_on(place: &mut Option<Drain>) -> bool {
     match place {
         Some(drain) => drain.hear(),
@@ -34,11 +44,9 @@ fn goes_on(place: &mut Option<Drain>) -> bool {
 }
 
 /// Hears a connection that is drained, and lets it go where no more is to come.
-fn hear_drain(drains: &mut [Option<Drain>], at: usize) {
-    if let Some(place) = drains.get_mut(at) {
-        if !goes_on(place) {
-            *place = None;
-        }
+fn hear_drain(place: &mut Option<Drain>) {
+    if !goes_on(place) {
+        *place = None;
     }
 }
 
@@ -47,28 +55,62 @@ pub(crate) fn hear_ready(
     events: &Events,
     seats: &mut [Option<Seat>],
     drains: &mut [Option<Drain>],
-    now: Instant,
 ) {
     for event in events.iter() {
         let at = event.token().0;
         match at.checked_sub(FIRST_DRAIN) {
-            Some(drain) => hear_drain(drains, drain),
-            None => hear_seat(seats, at, event.is_read_closed(), now),
+            Some(at) => {
+                if let Some(place) = drains.get_mut(at) {
+                    hear_drain(place);
+                }
+            }
+            None => hear_seat(seats, at, event.is_error() || event.is_write_closed()),
         }
     }
 }
 
-/// Calls a connection whose time for its head is over, and lets go of what one sent that has gone.
-fn judge_place(place: &mut Option<Seat>, now: Instant)
-    ensures { IsJudged now place.old place.new }
-{
-    if let Some(seat) = place {
-        seat.judge(now);
-        seat.judge_line(now);
+/// Whether more of a connection that is drained is there at once.
+fn has_more(place: &Option<Drain>) -> bool {
+    match place {
+        Some(drain) => drain.more,
+        None => false,
     }
 }
 
-/// Calls the connections whose time is over, and lets go of what those sent who have gone.
+/// Whether more of some connection that is drained is there at once.
+pub(crate) fn any_has_more(drains: &[Option<Drain>]) -> bool {
+    drains.iter().any(|place| has_more(place))
+}
+
+/// Hears the connections that are drained and of which more is there.
+pub(crate) fn hear_more(drains: &mut [Option<Drain>]) {
+    for place in drains.iter_mut() {
+        if has_more(place) {
+            hear_drain(place);
+        }
+    }
+}
+
+/// Whether a connection in a place waits for its head and its time for that is over.
+fn is_late(place: &Option<Seat>, now: Instant) -> bool
+    ensures { result ≡ is_late now place.now }
+{
+    match place {
+        Some(seat) => seat.is_late(now),
+        None => false,
+    }
+}
+
+/// Has whoever is late leave its place.
+fn judge_place(place: &mut Option<Seat>, now: Instant)
+    ensures { place.new ≡ judged now place.old }
+{
+    if is_late(place, now) {
+        *place = None;
+    }
+}
+
+/// Has the connections leave whose time for a head is over.
 pub(crate) fn judge_all(seats: &mut [Option<Seat>], now: Instant)
     ensures { AreJudged now seats.old seats.new }
 {

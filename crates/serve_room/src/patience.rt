@@ -1,5 +1,5 @@
 // How long a connection that is served is waited for.
-ghost use Rattle.std.specs.Prelude.{◌≡◌, ◌≤◌, ◌<◌, ◌+◌, ◌-◌};
+ghost use Rattle.std.specs.Prelude.{◌≡◌, ◌≤◌, ◌<◌, ◌+◌, ◌-◌, true, false};
 ghost use Rattle.std.specs.Duration.{as_nanos};
 ghost use Rattle.serve_room.specs.Times.{portion, portion_time, left_of};
 
@@ -11,11 +11,12 @@ pub(crate) const PORTION_SECONDS: u64 = 30;
 /// How many bytes a portion has.
 const PORTION: usize = 65_536;
 
-/// What was waited for a portion, and how many of its bytes came.
+/// What was waited for a portion, how many of its bytes came, and whether it is the last, of any size.
 #[derive(Clone, Copy)]
 pub(crate) struct Patience {
     waited: Duration,
     came: usize,
+    last: bool,
 }
 
 impl Patience {
@@ -23,10 +24,12 @@ impl Patience {
     pub(crate) fn whole() -> Patience
         ensures left { left_of result ≡ portion_time }
         ensures came { result.came ≡ 0 }
+        ensures more { result.last ≡ false }
     {
         Patience {
             waited: Duration::ZERO,
             came: 0,
+            last: false,
         }
     }
 
@@ -37,19 +40,39 @@ impl Patience {
         Duration::from_secs(PORTION_SECONDS).saturating_sub(self.waited)
     }
 
-    /// Notes a read. Behind a portion it begins anew.
+    /// Has what is still to come be the last portion, of which nothing was waited. Where it was the last before nothing
+    /// changes.
+    pub(crate) fn end(&mut self)
+        ensures last { self.new.last ≡ true }
+        ensures begins { self.old.last ≡ false → left_of self.new ≡ portion_time }
+        ensures again { self.old.last ≡ true → self.new ≡ self.old }
+    {
+        if self.last {
+            return;
+        }
+        *self = Patience {
+            waited: Duration::ZERO,
+            came: 0,
+            last: true,
+        };
+    }
+
+    /// Notes a read. Behind a portion that is not the last it begins anew.
     pub(crate) fn note(&mut self, waited: Duration, count: usize)
-        ensures anew { portion ≤ self.old.came + count → left_of self.new ≡ portion_time }
+        ensures anew { self.old.last ≡ false → portion ≤ self.old.came + count → left_of self.new ≡ portion_time }
         ensures spent { self.old.came + count < portion → left_of self.new ≡ left_of self.old - as_nanos waited }
+        ensures ends { self.old.last ≡ true → left_of self.new ≡ left_of self.old - as_nanos waited }
         ensures came { self.old.came + count < portion → self.new.came ≡ self.old.came + count }
+        ensures last { self.new.last ≡ self.old.last }
     {
         let came = self.came.saturating_add(count);
-        if came >= PORTION {
+        if !self.last && came >= PORTION {
             *self = Patience::whole();
         } else {
             *self = Patience {
                 waited: self.waited.saturating_add(waited),
                 came,
+                last: self.last,
             };
         }
     }

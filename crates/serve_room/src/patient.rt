@@ -1,10 +1,11 @@
 // A stream that is read with patience.
-ghost use Rattle.std.specs.Prelude.{◌≡◌, true, IsErr};
+ghost use Rattle.std.specs.Prelude.{◌≡◌, true, false, None, IsErr, IsSome};
 ghost use Rattle.std.specs.Io.{ReadsAtMost, WritesAtMost};
 ghost use Rattle.std.specs.Io.KnownBytes.{ReadConsumes};
 ghost use Rattle.serve_room.specs.Times.{left_of};
 
 use crate::patience::Patience;
+use crate::turns::{OwnTurn, is_over};
 use std::io::{self, ErrorKind, Read, Write};
 use std::net::TcpStream;
 use std::rt::HostRuntime;
@@ -22,26 +23,26 @@ impl Timed for TcpStream {
     }
 }
 
-/// A stream whose reads wait for it 30 seconds for each 64 KiB. Of one that is late nothing is read.
+/// A stream whose reads wait for it 30 seconds for each 64 KiB, and 30 seconds in all once its turn is over.
 #[derive(Drop)]
 pub struct Patient<S> {
     rt: HostRuntime,
     pub(crate) stream: S,
     patience: Patience,
-    late: bool,
+    turn: Option<OwnTurn>,
 }
 
 impl<S> Patient<S> {
     /// Nothing was waited as yet.
-    pub(crate) fn new(rt: HostRuntime, stream: S, late: bool) -> Patient<S>
+    pub(crate) fn new(rt: HostRuntime, stream: S, turn: Option<OwnTurn>) -> Patient<S>
         ensures stream { result.stream ≡ stream }
-        ensures late { result.late ≡ late }
+        ensures turn { result.turn ≡ turn }
     {
         Patient {
             rt,
             stream,
             patience: Patience::whole(),
-            late,
+            turn,
         }
     }
 }
@@ -54,21 +55,37 @@ fn waited_since(rt: &HostRuntime, start: Instant, most: Duration) -> Duration {
     }
 }
 
+/// How long a stream may still be waited for; once its turn is over, for all that is left. Where it may no more, it stays
+/// so.
+fn time_left(patience: &mut Patience, over: bool) -> Option<Duration>
+    ensures none { left_of patience.old ≡ 0 → result ≡ None }
+    ensures ends { over ≡ true → IsSome result → patience.new.last ≡ true }
+    ensures goes { over ≡ false → patience.new ≡ patience.old }
+{
+    if patience.left().is_zero() {
+        return None;
+    }
+    if over {
+        patience.end();
+    }
+    Some(patience.left())
+}
+
 /// Reads once, where a stream may still be waited for.
 fn read_patiently<S: Read + Timed>(
     rt: &HostRuntime,
     stream: &mut S,
     patience: &mut Patience,
+    over: bool,
     buf: &mut [u8],
 ) -> io::Result<usize>
     ensures bound { ReadsAtMost result buf.new }
     ensures bytes { ReadConsumes (S.remaining stream.old) (S.remaining stream.new) result buf.new }
     ensures over { left_of patience.old ≡ 0 → IsErr result }
 {
-    let left = patience.left();
-    if left.is_zero() {
+    let Some(left) = time_left(patience, over) else {
         return Err(io::Error::from(ErrorKind::TimedOut));
-    }
+    };
     if stream.set_wait(left).is_err() {
         return Err(io::Error::from(ErrorKind::TimedOut));
     }
@@ -90,13 +107,15 @@ impl<S: Read + Timed> Read for Patient<S> {
     fn read(&mut self, buf: &mut [u8]) -> io::Result<usize>
         ensures bound { ReadsAtMost result buf.new }
         ensures bytes { ReadConsumes (S.remaining self.old.stream) (S.remaining self.new.stream) result buf.new }
-        ensures late { self.old.late ≡ true → IsErr result }
         ensures over { left_of self.old.patience ≡ 0 → IsErr result }
     {
-        if self.late {
-            return Err(io::Error::from(ErrorKind::TimedOut));
-        }
-        read_patiently(&self.rt, &mut self.stream, &mut self.patience, buf)
+        read_patiently(
+            &self.rt,
+            &mut self.stream,
+            &mut self.patience,
+            is_over(&self.turn),
+            buf,
+        )
     }
 }
 

@@ -1,11 +1,33 @@
-// Who leaves the room first.
+// What connections ask for, and who leaves the room first.
 ghost use Rattle.std.specs.Prelude.{◌≡◌, ◌<◌, ◌≤◌, ◌+◌, None, true, false, IfSome, length};
 ghost use Rattle.std.specs.Time.{instant_nanos};
-ghost use Rattle.serve_room.specs.Posts.{ends_line, begins_post, posts, may_leave, IsFirst, IsFirstBelow, HasNone};
+ghost use Rattle.serve_room.specs.Posts.{ends_line, begins_post, begins_read, line_of, kind_of, of_kind, is_meant};
+ghost use Rattle.serve_room.specs.Posts.{IsFirst, IsFirstBelow, HasNone};
 ghost use Rattle.serve_room.specs.declared.seat.Seat.{Seat as TheSeat};
 
 use crate::seat::Seat;
 use std::time::Instant;
+
+/// What a connection asks for, by how its request begins.
+#[derive(Clone, Copy, Debug, PartialEq, Eq)]
+pub(crate) enum Kind {
+    /// A day is posted, to be imported or for its notices.
+    Post,
+    /// What is kept is asked for, which waits for the keeper.
+    Read,
+    /// All else, which waits for nobody.
+    Free,
+}
+
+/// Which connections are meant: of those that are to wait no more the kinds that are named, and whether those that wait
+/// for their head are.
+#[derive(Clone, Copy, Debug, PartialEq, Eq)]
+pub(crate) struct Who {
+    pub(crate) posts: bool,
+    pub(crate) reads: bool,
+    pub(crate) free: bool,
+    pub(crate) waiting: bool,
+}
 
 /// Whether a byte ends a line.
 fn ends_line(byte: u8) -> bool
@@ -21,24 +43,60 @@ fn begins_post(sent: &[u8]) -> bool
     sent.starts_with(b"POST /days/") || sent.starts_with(b"POST /answers/")
 }
 
-/// Whether what was sent begins, behind empty lines, as the POST of a day, to be imported or for its notices. All
-/// others are answered at once.
-pub(crate) fn is_post(held: &[u8]) -> bool
-    ensures { result ≡ posts held.now }
+/// Whether some bytes begin as a GET of what is kept, for which the keeper is asked.
+fn begins_read(sent: &[u8]) -> bool
+    ensures { result ≡ begins_read sent.now }
+{
+    sent.starts_with(b"GET /days")
+        || sent.starts_with(b"GET /spent/")
+        || sent.starts_with(b"GET /vehicles/")
+}
+
+/// What was sent, from the first byte on that ends no line.
+fn line_of(held: &[u8]) -> &[u8]
+    ensures { result.now ≡ line_of held.now }
 {
     for at in 0..held.len() {
         if !ends_line(held[at]) {
-            return begins_post(&held[at..]);
+            return &held[at..];
         }
     }
-    false
+    &[]
 }
 
-/// Whether a connection may leave its seat: it is to wait no more, and posts no day where that is forbidden.
-pub(crate) fn may_leave(seat: &Seat, forbidden: bool) -> bool
-    ensures { result ≡ may_leave forbidden seat.now }
+/// What a connection asks for, by what it sent.
+pub(crate) fn kind_of(held: &[u8]) -> Kind
+    ensures { result ≡ kind_of held.now }
 {
-    seat.called && (!forbidden || !is_post(seat.held.as_slice()))
+    let line = line_of(held);
+    if begins_post(line) {
+        return Kind::Post;
+    }
+    if begins_read(line) {
+        return Kind::Read;
+    }
+    Kind::Free
+}
+
+/// Whether a connection of a kind that is to wait no more is among those that are meant.
+fn of_kind(who: Who, kind: Kind) -> bool
+    ensures { result ≡ of_kind who kind }
+{
+    match kind {
+        Kind::Post => who.posts,
+        Kind::Read => who.reads,
+        Kind::Free => who.free,
+    }
+}
+
+/// Whether a connection is among those that are meant.
+fn is_meant(seat: &Seat, who: Who) -> bool
+    ensures { result ≡ is_meant who seat.now }
+{
+    if seat.called {
+        return of_kind(who, kind_of(seat.held.as_slice()));
+    }
+    who.waiting
 }
 
 /// Whether a moment is not after another.
@@ -49,21 +107,21 @@ fn is_not_after(one: Instant, other: Instant) -> bool
     one.duration_since(other).is_zero()
 }
 
-/// The connection that leaves first of those below a place and the one in it, with the moment of its accept.
+/// The first of those that are meant below a place and in it, with the moment of its accept.
 fn with_next(
     seats: &[Option<Seat>],
     at: usize,
-    forbidden: bool,
+    who: Who,
     first: Option<(usize, Instant)>,
 ) -> Option<(usize, Instant)>
     requires at { at < length seats.now }
-    requires below { IsFirstBelow forbidden seats.now at first }
-    ensures { IsFirstBelow forbidden seats.now (at + 1) result }
+    requires below { IsFirstBelow who seats.now at first }
+    ensures { IsFirstBelow who seats.now (at + 1) result }
 {
     let Some(seat) = &seats[at] else {
         return first;
     };
-    if may_leave(seat, forbidden) {
+    if is_meant(seat, who) {
         let Some(before) = first else {
             return Some((at, seat.since));
         };
@@ -75,14 +133,14 @@ fn with_next(
     first
 }
 
-/// The seat of the connection that was accepted first of those that may leave.
-pub(crate) fn first_called(seats: &[Option<Seat>], forbidden: bool) -> Option<usize>
-    ensures first { IfSome result (λ at. (seat : TheSeat) × IsFirst forbidden seats.now at seat) }
-    ensures none { result ≡ None → HasNone forbidden seats.now }
+/// The seat of the connection that was accepted first of those that are meant.
+pub(crate) fn first_of(seats: &[Option<Seat>], who: Who) -> Option<usize>
+    ensures first { IfSome result (λ at. (seat : TheSeat) × IsFirst who seats.now at seat) }
+    ensures none { result ≡ None → HasNone who seats.now }
 {
     let mut first = None;
     for at in 0..seats.len() {
-        first = with_next(seats, at, forbidden, first);
+        first = with_next(seats, at, who, first);
     }
     let Some(found) = first else {
         return None;

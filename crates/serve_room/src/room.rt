@@ -1,19 +1,24 @@
 // Where connections wait for their head.
-ghost use Rattle.std.specs.Prelude.{◌≡◌, ◌<◌, ◌+◌, true, false, None, Some, IfOk, IfSome, IsSome, slice_get};
+ghost use Rattle.std.specs.Prelude.{◌≡◌, ◌≢◌, ◌<◌, ◌≤◌, ◌+◌, true, false, None, Some, IfOk, IfSome, IsSome, slice_get};
 ghost use Rattle.serve_room.specs.Addresses.{address_of};
-ghost use Rattle.serve_room.specs.Outsides.{most_out, out_of};
+ghost use Rattle.serve_room.specs.Outsides.{most_out, posts_out, reads_out, one_post, one_read};
 ghost use Rattle.serve_room.specs.OwnPorts.{IsOwnPort};
-ghost use Rattle.serve_room.specs.Posts.{posts};
+ghost use Rattle.serve_room.specs.declared.seat.Seat.{Seat as TheSeat};
+ghost use Rattle.serve_room.specs.declared.posts.Kind.TheVariants.{Post, Read, Free};
+ghost use Rattle.serve_room.specs.Posts.{kind_of, OnlyOthersWait};
 
 use crate::draining::Drain;
 use crate::heard::Heard;
-use crate::hearing::{DRAINS, SEATS, end_drains, hear_ready, is_empty, judge_all};
+use crate::hearing::{
+    DRAINS, SEATS, any_has_more, end_drains, hear_more, hear_ready, is_empty, judge_all,
+};
 use crate::outside::Outside;
-use crate::posts::{first_called, is_post};
-use crate::room_link::{Pass, RoomLink, link_to};
+use crate::posts::{first_of, kind_of};
+use crate::room_link::{RoomLink, link_to};
 use crate::seat::Seat;
-use crate::seating::{Gate, drain, fill};
+use crate::seating::{Gate, drain, fill, give_seat};
 use crate::threshold::Threshold;
+use crate::turns::Pass;
 use mio::net::TcpListener;
 use mio::{Events, Interest, Poll, Registry, Token, Waker};
 use road_io::Failed;
@@ -45,8 +50,8 @@ pub enum RoomFault {
     NoMemory,
 }
 
-/// Connections that wait for their head, those that are drained, those that post a day and are out, and the listener
-/// that they come from.
+/// Connections that wait for their head, those that are drained, those that are out and for which others wait, and the
+/// listener that they come from.
 #[derive(Drop)]
 pub struct WaitingRoom {
     rt: HostRuntime,
@@ -90,59 +95,60 @@ fn watch(rt: &HostRuntime, listener: &mut TcpListener) -> io::Result<(Poll, Wake
     Ok((poll, waker))
 }
 
-/// How long to wait for what connections send: without end where nobody waits and nothing is to pass.
+/// How long to wait for what connections send: not at all where more is there, and without end where nobody waits and
+/// nothing is to pass.
 fn patience(seats: &[Option<Seat>], drains: &[Option<Drain>], gate: Gate) -> Option<Duration> {
-    if gate == Gate::Clear && is_empty(seats) && is_empty(drains) {
-        None
-    } else {
-        Some(Duration::from_millis(TICK))
+    if gate == Gate::Given || any_has_more(drains) {
+        return Some(Duration::ZERO);
     }
+    if gate == Gate::Clear && is_empty(seats) && is_empty(drains) {
+        return None;
+    }
+    Some(Duration::from_millis(TICK))
+}
+
+/// Where all seats are taken, has one be given up for who comes next.
+fn given_way(seats: &mut [Option<Seat>], gate: Gate) -> Gate {
+    if gate == Gate::Full && give_seat(seats) {
+        return Gate::Given;
+    }
+    gate
 }
 
 /// Takes the connection out of a seat, if one sits there.
 fn take_at(seats: &mut [Option<Seat>], at: usize) -> Option<Seat>
-    ensures { IfSome result (λ seat. slice_get seats.old at ≡ Some (Some seat)) }
+    ensures sat { IfSome result (λ seat. slice_get seats.old at ≡ Some (Some seat)) }
+    ensures none { (seat : TheSeat) → result ≡ None → slice_get seats.old at ≢ Some (Some seat) }
 {
     seats.get_mut(at)?.take()
-}
-
-/// The pass, for a connection that posts a day, which is out from now on.
-fn pass_for(held: &[u8], outside: &mut Outside) -> Option<Pass>
-    ensures posts { posts held.now ≡ true → (result ≡ outside.old.pass) × (outside.new.pass ≡ None)
-        × (outside.old.out < outside.old.most → outside.new.out ≡ outside.old.out + 1) }
-    ensures others { posts held.now ≡ false → (result ≡ None) × (outside.new ≡ outside.old) }
-{
-    if is_post(held) {
-        return outside.let_out();
-    }
-    None
 }
 
 /// Has a connection leave its seat; one that posts a day takes the pass.
 fn let_out(rt: HostRuntime, registry: &Registry, seat: Seat, outside: &mut Outside) -> RoomLink
     ensures front { result.front ≡ seat.held }
-    ensures pass { posts seat.held.items ≡ true → result.keep.pass ≡ outside.old.pass }
-    ensures counts { posts seat.held.items ≡ true → outside.old.out < outside.old.most
-        → outside.new.out ≡ outside.old.out + 1 }
-    ensures told { result.keep.posts ≡ posts seat.held.items }
+    ensures told { result.keep.kind ≡ kind_of seat.held.items }
+    ensures pass { kind_of seat.held.items ≡ Post → result.keep.pass ≡ outside.old.pass }
+    ensures posts { outside.old.posts < outside.old.most
+        → outside.new.posts ≡ outside.old.posts + one_post (kind_of seat.held.items) }
+    ensures reads { outside.old.reads < outside.old.most
+        → outside.new.reads ≡ outside.old.reads + one_read (kind_of seat.held.items) }
 {
     let Seat {
         stream,
         held,
         since: _,
         called: _,
-        late,
-        ended: _,
     } = seat;
     let mut stream = stream;
     let _ = registry.deregister(&mut stream);
-    let own = pass_for(held.as_slice(), outside);
-    link_to(rt, net::TcpStream::from(stream), held, late, own)
+    let kind = kind_of(held.as_slice());
+    let own = outside.let_out(kind);
+    link_to(rt, net::TcpStream::from(stream), held, kind, own)
 }
 
 impl WaitingRoom {
-    /// Listens on a port of 127.0.0.1, which only this machine reaches. Nobody waits. So many connections that post a
-    /// day are out at a time at most.
+    /// Listens on a port of 127.0.0.1, which only this machine reaches. Nobody waits. Of the connections that post a day so
+    /// many are out at a time at most, of those that ask for what is kept as many, and of both together one more.
     pub fn open(
         rt: HostRuntime,
         alloc: Global,
@@ -151,7 +157,7 @@ impl WaitingRoom {
     ) -> Result<WaitingRoom, RoomFault>
         ensures address { IfOk result (λ room. IsOwnPort (address_of room) port) }
         ensures most { IfOk result (λ room. most_out room ≡ most) }
-        ensures none { IfOk result (λ room. out_of room ≡ 0) }
+        ensures none { IfOk result (λ room. (posts_out room ≡ 0) × (reads_out room ≡ 0)) }
     {
         let Ok(seats) = empty_places(alloc, SEATS) else {
             return Err(RoomFault::NoMemory);
@@ -163,6 +169,9 @@ impl WaitingRoom {
             return Err(RoomFault::NoMemory);
         };
         let Ok(back) = Vec::with_capacity(alloc, BACK) else {
+            return Err(RoomFault::NoMemory);
+        };
+        let Ok(pass) = Pass::of_new_room(alloc) else {
             return Err(RoomFault::NoMemory);
         };
         let Ok((heard, poll, waker)) = listen(&rt, port) else {
@@ -178,7 +187,7 @@ impl WaitingRoom {
             events,
             seats,
             drains,
-            outside: Outside::new(most),
+            outside: Outside::new(most, pass),
             threshold,
         })
     }
@@ -203,7 +212,7 @@ impl WaitingRoom {
         }
     }
 
-    /// Takes what came back: connections, which are drained, the pass, and those that posted a day.
+    /// Takes what came back: connections, which are drained, the pass, and those for which others wait.
     fn take_back<R: Wait>(&mut self, rt: &R, now: Instant) {
         for _ in 0..DRAINS {
             let Some(stream) = self.threshold.next_stream(rt) else {
@@ -219,19 +228,27 @@ impl WaitingRoom {
         if let Some(pass) = self.threshold.next_pass(rt) {
             self.outside.take_pass(pass);
         }
-        self.outside.take_back(self.threshold.take_posts(rt));
+        let (posts, reads) = self.threshold.take_counts(rt);
+        self.outside.take_back(posts, reads);
     }
 
     /// Takes the connection that was accepted first of those that may leave. One that posts a day may leave while the
-    /// pass is there, which it takes with it, and while fewer are out than may be.
+    /// pass is there, which it takes with it. Such a one, and one that asks for what is kept, may leave while fewer are out
+    /// than may be.
     fn take(&mut self) -> Option<RoomLink>
-        ensures pass { IfSome result (λ line. posts line.front.items ≡ true → IsSome line.keep.pass) }
-        ensures few { IfSome result (λ line. posts line.front.items ≡ true → out_of self.old < most_out self.old) }
-        ensures counts { IfSome result (λ line. posts line.front.items ≡ true
-            → out_of self.new ≡ out_of self.old + 1) }
-        ensures told { IfSome result (λ line. line.keep.posts ≡ posts line.front.items) }
+        ensures told { IfSome result (λ line. line.keep.kind ≡ kind_of line.front.items) }
+        ensures pass { IfSome result (λ line. kind_of line.front.items ≡ Post → IsSome line.keep.pass) }
+        ensures post { IfSome result (λ line. kind_of line.front.items ≡ Post
+            → (posts_out self.old < most_out self.old) × (posts_out self.old + reads_out self.old ≤ most_out self.old)) }
+        ensures read { IfSome result (λ line. kind_of line.front.items ≡ Read
+            → (reads_out self.old < most_out self.old) × (posts_out self.old + reads_out self.old ≤ most_out self.old)) }
+        ensures posts { IfSome result (λ line. posts_out self.old < most_out self.old
+            → posts_out self.new ≡ posts_out self.old + one_post (kind_of line.front.items)) }
+        ensures reads { IfSome result (λ line. reads_out self.old < most_out self.old
+            → reads_out self.new ≡ reads_out self.old + one_read (kind_of line.front.items)) }
+        ensures left { result ≡ None → OnlyOthersWait self.old.seats.items }
     {
-        let at = first_called(self.seats.as_slice(), self.outside.forbids())?;
+        let at = first_of(self.seats.as_slice(), self.outside.who_leaves())?;
         let seat = take_at(self.seats.as_mut_slice(), at)?;
         Some(let_out(self.rt, self.poll.registry(), seat, &mut self.outside))
     }
@@ -247,8 +264,8 @@ impl WaitingRoom {
             &self.events,
             self.seats.as_mut_slice(),
             self.drains.as_mut_slice(),
-            now,
         );
+        hear_more(self.drains.as_mut_slice());
         judge_all(self.seats.as_mut_slice(), now);
         end_drains(self.drains.as_mut_slice(), now);
         Ok(())
@@ -269,9 +286,10 @@ impl WaitingRoom {
         }
     }
 
-    /// Waits for the next connection that is to wait no more, and gives it: its head is whole, or it ended, or its time
-    /// is over. One that posts a day waits while another has the pass, and while as many are out as may be. It fails
-    /// where the listener cannot hear any more, and where the room is closed.
+    /// Waits for the next connection that is to wait no more, and gives it: its head is whole, or can become none. One for
+    /// which others wait is given while fewer are out than may be, and one that posts a day while no other has the pass.
+    /// Whoever ends before its head does, or is late, leaves its seat and is not given. It fails where the listener cannot
+    /// hear any more, and where the room is closed.
     pub fn next<R: Wait>(&mut self, rt: &R, alloc: Global) -> Result<RoomLink, Failed> {
         for _ in 0..u64::MAX {
             if self.threshold.is_closed() {
@@ -289,6 +307,7 @@ impl WaitingRoom {
             if let Some(line) = self.take() {
                 return Ok(line);
             }
+            let gate = given_way(self.seats.as_mut_slice(), gate);
             self.wait(gate)?;
         }
         Err(Failed)

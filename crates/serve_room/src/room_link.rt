@@ -1,32 +1,19 @@
 // A connection that waited.
 ghost use Rattle.std.specs.Prelude.{◌≡◌, refl};
-ghost use Rattle.serve_room.specs.Posts.{posts};
 ghost use Rattle.serve_room.specs.Streams.{with_stream};
 
 use crate::front_link::FrontLink;
 use crate::patience::PORTION_SECONDS;
 use crate::patient::Patient;
-use crate::posts::is_post;
+use crate::posts::Kind;
 use crate::threshold::Threshold;
+use crate::turns::{OwnTurn, Pass};
 use road_io::{Linking, TwoEnds};
 use std::alloc::Global;
 use std::net::{Shutdown, TcpStream};
 use std::rt::HostRuntime;
 use std::sync::{Arc, Wait};
 use std::time::Duration;
-
-/// What a connection that posts a day takes out of the room. There is one, so one such connection has it at a time.
-#[derive(Drop)]
-pub(crate) struct Pass {
-    one: (),
-}
-
-impl Pass {
-    /// The pass of a room that is opened.
-    pub(crate) fn of_new_room() -> Pass {
-        Pass { one: () }
-    }
-}
 
 /// The ends of a connection, which are one.
 #[derive(Drop)]
@@ -69,12 +56,12 @@ impl TwoEnds for RoomEnds {
     }
 }
 
-/// What is kept of a connection that left the room: the same connection again, for the room to drain, whether it posts
-/// a day, and the pass of one that does.
+/// What is kept of a connection that left the room: the same connection again, for the room to drain, what it asks for,
+/// and the pass of one that posts a day.
 #[derive(Drop)]
 pub struct Kept {
     pub(crate) again: Option<TcpStream>,
-    pub(crate) posts: bool,
+    pub(crate) kind: Kind,
     pub(crate) pass: Option<Pass>,
 }
 
@@ -85,38 +72,48 @@ pub struct RoomTurn {
 }
 
 impl RoomTurn {
-    /// Gives the pass back: the next connection that posts a day may leave the room.
+    /// Gives the pass back: the next connection that posts a day may leave the room, and this one is waited for no longer
+    /// than its last portion.
     pub fn end<R: Wait>(self, rt: &R) {
         let RoomTurn { pass, threshold } = self;
-        threshold.give_back(rt, None, Some(pass), false);
+        pass.end();
+        threshold.give_back(rt, None, Some(pass), Kind::Free);
     }
 }
 
 /// A connection that waited for its head: what it sent meanwhile is read first. Reads then wait for it 30 seconds for
-/// each 64 KiB, and a write as long. Where the system gives no second handle of a connection, it is not drained.
+/// each 64 KiB, and once its turn is over 30 seconds in all; a write waits as long. Where the system gives no second handle
+/// of a connection, it is not drained.
 pub type RoomLink = FrontLink<Linking<RoomEnds>, Kept>;
 
-/// A link to a connection that left the room. Of a late one nothing is read but what it sent, and it is not drained.
+/// The turn that begins with a pass, where there is one.
+fn turn_of(pass: &Option<Pass>) -> Option<OwnTurn> {
+    match pass {
+        Some(pass) => pass.begin(),
+        None => None,
+    }
+}
+
+/// A link to a connection that left the room.
 pub(crate) fn link_to(
     rt: HostRuntime,
     stream: TcpStream,
     front: Vec<u8>,
-    late: bool,
+    kind: Kind,
     pass: Option<Pass>,
 ) -> RoomLink
     ensures front { result.front ≡ front }
     ensures at { result.at ≡ 0 }
+    ensures kind { result.keep.kind ≡ kind }
     ensures pass { result.keep.pass ≡ pass }
-    ensures posts { result.keep.posts ≡ posts front.items }
 {
     let _ = stream.set_nonblocking(false);
     let _ = stream.set_write_timeout(Some(Duration::from_secs(PORTION_SECONDS)));
-    let again = if late { None } else { stream.try_clone().ok() };
+    let again = stream.try_clone().ok();
     let ends = RoomEnds {
-        stream: Patient::new(rt, stream, late),
+        stream: Patient::new(rt, stream, turn_of(&pass)),
     };
-    let posts = is_post(front.as_slice());
-    FrontLink::over(front, Linking::over(rt, ends), Kept { again, posts, pass })
+    FrontLink::over(front, Linking::over(rt, ends), Kept { again, kind, pass })
 }
 
 impl FrontLink<Linking<RoomEnds>, Kept> {
@@ -130,8 +127,8 @@ impl FrontLink<Linking<RoomEnds>, Kept> {
     /// for that.
     pub fn leave<R: Wait>(self, rt: &R, threshold: &Threshold) {
         let (link, kept) = self.into_parts();
-        let Kept { again, posts, pass } = kept;
+        let Kept { again, kind, pass } = kept;
         drop(link);
-        threshold.give_back(rt, again, pass, posts);
+        threshold.give_back(rt, again, pass, kind);
     }
 }

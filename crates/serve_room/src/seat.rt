@@ -1,11 +1,9 @@
 // A connection that waits for its head.
-ghost use Rattle.std.specs.Prelude.{◌≡◌, ◌≤◌, ◌<◌, ◌+◌, ◌-◌, ◌≢◌, true, false, [], None, Some, length, vec_len};
+ghost use Rattle.std.specs.Prelude.{◌≡◌, ◌≤◌, ◌+◌, true, Some, length, vec_len};
 ghost use Rattle.std.specs.Time.{instant_nanos};
-ghost use Rattle.serve_room.specs.Posts.{posts};
-ghost use Rattle.serve_room.specs.Times.{head_time, has_gone};
+ghost use Rattle.serve_room.specs.Judged.{is_late};
 
 use crate::front::{FRONT, is_told};
-use crate::posts::is_post;
 use mio::net::TcpStream;
 use std::alloc::Global;
 use std::io::{ErrorKind, Read};
@@ -14,19 +12,13 @@ use std::time::{Duration, Instant};
 /// How many seconds a connection has for its head.
 const HEAD_SECONDS: u64 = 10;
 
-/// How many seconds after its end was heard a connection is taken to have gone.
-const GONE_SECONDS: u64 = 1;
-
-/// A connection that waits: what it sent so far, when it was accepted, whether it is to wait no more for its head,
-/// whether nothing more is to be read of it, and when its end was first heard.
+/// A connection that waits: what it sent so far, when it was accepted, and whether it is to wait no more for its head.
 #[derive(Drop)]
 pub(crate) struct Seat {
     pub(crate) stream: TcpStream,
     pub(crate) held: Vec<u8>,
     pub(crate) since: Instant,
     pub(crate) called: bool,
-    pub(crate) late: bool,
-    pub(crate) ended: Option<Instant>,
 }
 
 /// What a read comes to.
@@ -37,7 +29,7 @@ enum Heard {
     More,
     /// The connection is to wait no more.
     Called,
-    /// The connection is to wait no more, and what it sent is lost.
+    /// Nothing can be answered: its bytes ended before a head did, or the connection or memory failed.
     Lost,
 }
 
@@ -46,7 +38,7 @@ fn hear_once(stream: &mut TcpStream, held: &mut Vec<u8>, piece: &mut [u8]) -> He
     ensures { vec_len held.new ≤ vec_len held.old + length piece.old }
 {
     match stream.read(piece) {
-        Ok(0) => Heard::Called,
+        Ok(0) => Heard::Lost,
         Ok(count) => {
             if held.extend_from_slice(&piece[..count]).is_err() {
                 return Heard::Lost;
@@ -60,18 +52,8 @@ fn hear_once(stream: &mut TcpStream, held: &mut Vec<u8>, piece: &mut [u8]) -> He
         Err(fault) => match fault.kind() {
             ErrorKind::WouldBlock => Heard::Open,
             ErrorKind::Interrupted => Heard::More,
-            _ => Heard::Called,
+            _ => Heard::Lost,
         },
-    }
-}
-
-/// Whether the end of what a client sends was heard long enough ago.
-fn has_gone(ended: Option<Instant>, now: Instant) -> bool
-    ensures { result ≡ has_gone ended now }
-{
-    match ended {
-        Some(ended) => now.duration_since(ended) >= Duration::from_secs(GONE_SECONDS),
-        None => false,
     }
 }
 
@@ -83,69 +65,22 @@ impl Seat {
             held: Vec::new(alloc),
             since,
             called: false,
-            late: false,
-            ended: None,
         }
     }
 
-    /// Calls the connection, of which nothing more is to be read.
-    pub(crate) fn call_late(&mut self)
-        ensures called { self.new.called ≡ true }
-        ensures late { self.new.late ≡ true }
-        ensures held { self.new.held ≡ self.old.held }
-        ensures ended { self.new.ended ≡ self.old.ended }
+    /// Whether its time for a head is over at a moment.
+    pub(crate) fn is_late(&self, now: Instant) -> bool
+        ensures { result ≡ is_late now (Some self.now) }
     {
-        self.called = true;
-        self.late = true;
+        !self.called && now.duration_since(self.since) >= Duration::from_secs(HEAD_SECONDS)
     }
 
-    /// Calls the connection where its time is over.
-    pub(crate) fn judge(&mut self, now: Instant)
-        ensures over { head_time ≤ instant_nanos now - instant_nanos self.old.since → self.new.called ≡ true }
-        ensures young { instant_nanos now - instant_nanos self.old.since < head_time → self.new ≡ self.old }
-        ensures called { self.old.called ≡ true → self.new ≡ self.old }
-        ensures held { self.new.held ≡ self.old.held }
-        ensures ended { self.new.ended ≡ self.old.ended }
-    {
-        if self.called {
-            return;
-        }
-        if now.duration_since(self.since) >= Duration::from_secs(HEAD_SECONDS) {
-            self.call_late();
-        }
-    }
-
-    /// Notes that the end of what the client sends was heard.
-    pub(crate) fn note_end(&mut self, now: Instant)
-        ensures first { self.old.ended ≡ None → self.new ≡ record self.old { ended = Some now } }
-        ensures again { self.old.ended ≢ None → self.new ≡ self.old }
-    {
-        if self.ended.is_none() {
-            self.ended = Some(now);
-        }
-    }
-
-    /// Lets go of what a connection that waits in line sent, where its client has gone: its end was heard a second ago.
-    /// Nothing of it is served then.
-    pub(crate) fn judge_line(&mut self, now: Instant)
-        ensures gone { posts self.old.held.items ≡ true → has_gone self.old.ended now ≡ true
-            → (self.new.held.items ≡ []) × (self.new.late ≡ true) × (self.new.called ≡ true) }
-        ensures waits { has_gone self.old.ended now ≡ false → self.new ≡ self.old }
-        ensures answered { posts self.old.held.items ≡ false → self.new ≡ self.old }
-        ensures called { self.old.called ≡ true → self.new.called ≡ true }
-    {
-        if !is_post(self.held.as_slice()) {
-            return;
-        }
-        if has_gone(self.ended, now) {
-            self.held.clear();
-            self.call_late();
-        }
-    }
-
-    /// Reads what is there, until the connection is to wait no more. What is held is never more than a head may have.
-    pub(crate) fn hear(&mut self)
+    /// Reads what is there, until the connection is to wait no more, and says whether it keeps its seat. What is held is
+    /// never more than a head may have.
+    pub(crate) fn hear(&mut self) -> bool
         ensures few { vec_len self.old.held ≤ 8192 → vec_len self.new.held ≤ 8192 }
+        ensures since { self.new.since ≡ self.old.since }
+        ensures called { self.old.called ≡ true → (result ≡ true) × (self.new.called ≡ true) }
     {
         let mut buf = [0u8; FRONT];
         for _ in 0..FRONT {
@@ -154,14 +89,15 @@ impl Seat {
                 self.called = true;
             }
             if self.called {
-                return;
+                return true;
             }
             match hear_once(&mut self.stream, &mut self.held, &mut buf[..room]) {
-                Heard::Open => return,
+                Heard::Open => return true,
                 Heard::More => {}
                 Heard::Called => self.called = true,
-                Heard::Lost => self.call_late(),
+                Heard::Lost => return false,
             }
         }
+        true
     }
 }

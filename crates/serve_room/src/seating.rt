@@ -1,8 +1,13 @@
 // Connections come to their seats.
+ghost use Rattle.std.specs.Prelude.{◌≡◌, true, false, is_some};
+ghost use Rattle.std.specs.List.{list_all};
+ghost use Rattle.serve_room.specs.Posts.{GivesSeat, HasNone};
+ghost use Rattle.serve_room.specs.declared.seating.TheConstants.{WAITING};
+
 use crate::draining::Drain;
 use crate::hearing::FIRST_DRAIN;
 use crate::passing::passes;
-use crate::posts::is_post;
+use crate::posts::{Kind, Who, first_of, kind_of};
 use crate::seat::Seat;
 use mio::net::{TcpListener, TcpStream};
 use mio::{Interest, Registry, Token};
@@ -19,27 +24,42 @@ pub(crate) enum Gate {
     Clear,
     /// All seats are taken.
     Full,
+    /// A seat was given up for who comes next.
+    Given,
     /// A fault is given time to pass.
     Faulty,
 }
 
-/// Whether a connection is to be heard again: it waits for its head, or for its turn.
+/// Whether a connection is to be heard again: it waits for its head, or for others.
 fn waits(seat: &Seat) -> bool {
-    !seat.called || is_post(seat.held.as_slice())
+    !seat.called || kind_of(seat.held.as_slice()) != Kind::Free
 }
 
-/// Seats a connection, which is heard at once, and again when it sends more or goes.
-fn seat(alloc: Global, registry: &Registry, at: usize, stream: TcpStream, now: Instant) -> Seat {
-    let mut seat = Seat::new(alloc, stream, now);
-    seat.hear();
-    if waits(&seat)
-        && registry
-            .register(&mut seat.stream, Token(at), Interest::READABLE)
-            .is_err()
-    {
-        seat.call_late();
+/// Whether a connection that waits is heard again when it sends more or fails.
+fn is_heard(registry: &Registry, at: usize, seat: &mut Seat) -> bool {
+    if !waits(seat) {
+        return true;
     }
-    seat
+    registry
+        .register(&mut seat.stream, Token(at), Interest::READABLE)
+        .is_ok()
+}
+
+/// Seats a connection, which is heard at once, and again when it sends more or fails. Where nothing can be answered it has
+/// no seat.
+fn seat(
+    alloc: Global,
+    registry: &Registry,
+    at: usize,
+    stream: TcpStream,
+    now: Instant,
+) -> Option<Seat> {
+    let mut seat = Seat::new(alloc, stream, now);
+    if seat.hear() && is_heard(registry, at, &mut seat) {
+        Some(seat)
+    } else {
+        None
+    }
 }
 
 /// Accepts connections into the seats that are free.
@@ -55,7 +75,7 @@ pub(crate) fn fill(
             continue;
         }
         match listener.accept() {
-            Ok((stream, _)) => *place = Some(seat(alloc, registry, at, stream, now)),
+            Ok((stream, _)) => *place = seat(alloc, registry, at, stream, now),
             Err(fault) => {
                 if fault.kind() == ErrorKind::WouldBlock {
                     return Ok(Gate::Clear);
@@ -68,6 +88,38 @@ pub(crate) fn fill(
         }
     }
     Ok(Gate::Full)
+}
+
+/// Those that wait for their head.
+const WAITING: Who = Who {
+    posts: false,
+    reads: false,
+    free: false,
+    waiting: true,
+};
+
+/// Whether all seats are taken.
+fn are_taken(seats: &[Option<Seat>]) -> bool
+    ensures { result ≡ list_all is_some seats.now }
+{
+    seats.iter().all(|place| place.is_some())
+}
+
+/// Has the connection that was accepted first of those that wait for their head give its seat, where all are taken, and
+/// says whether one did.
+pub(crate) fn give_seat(seats: &mut [Option<Seat>]) -> bool
+    ensures gives { result ≡ true → GivesSeat WAITING seats.old seats.new }
+    ensures keeps { result ≡ false → seats.new ≡ seats.old }
+    ensures none { result ≡ false → list_all is_some seats.old ≡ true → HasNone WAITING seats.old }
+{
+    if !are_taken(seats) {
+        return false;
+    }
+    let Some(at) = first_of(seats, WAITING) else {
+        return false;
+    };
+    seats[at] = None;
+    true
 }
 
 /// A connection that is drained in a place; none where nothing is to come any more.

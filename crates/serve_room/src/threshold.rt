@@ -1,26 +1,43 @@
 // Where connections come back to a room that they left.
-ghost use Rattle.std.specs.Prelude.{◌≡◌};
+ghost use Rattle.std.specs.Prelude.{◌≡◌, ◌+◌, ◌-◌, ◌^◌, min};
+ghost use Rattle.serve_room.specs.declared.posts.Kind.TheVariants.{Post, Read, Free};
 
-use crate::room_link::Pass;
+use crate::posts::Kind;
+use crate::turns::Pass;
 use mio::Waker;
 use std::net::{Shutdown, TcpStream};
 use std::sync::atomic::{AtomicBool, Ordering};
 use std::sync::{Mutex, Wait};
 
-/// What came back to a room: connections that were answered, how many of them posted a day, and the pass that one had.
+/// What came back to a room: connections that were answered, how many of them posted a day and how many asked for what is
+/// kept, and the pass that one had.
 #[derive(Drop)]
 struct Returned {
     streams: Vec<TcpStream>,
     posts: usize,
+    reads: usize,
     pass: Option<Pass>,
 }
 
 impl Returned {
-    /// Puts a connection and a pass to those that came back. One for which no memory is left is let go at once.
-    fn put(&mut self, stream: Option<TcpStream>, pass: Option<Pass>, posts: bool) {
-        if posts {
-            self.posts = self.posts.saturating_add(1);
+    /// Counts a connection of a kind that came back.
+    fn count(&mut self, kind: Kind)
+        ensures post { kind ≡ Post → (self.new.posts ≡ min (self.old.posts + 1) (2 ^ 64 - 1))
+            × (self.new.reads ≡ self.old.reads) }
+        ensures read { kind ≡ Read → (self.new.reads ≡ min (self.old.reads + 1) (2 ^ 64 - 1))
+            × (self.new.posts ≡ self.old.posts) }
+        ensures free { kind ≡ Free → self.new ≡ self.old }
+    {
+        match kind {
+            Kind::Post => self.posts = self.posts.saturating_add(1),
+            Kind::Read => self.reads = self.reads.saturating_add(1),
+            Kind::Free => {}
         }
+    }
+
+    /// Puts a connection of a kind, and a pass, to what came back. One for which no memory is left is let go at once.
+    fn put(&mut self, stream: Option<TcpStream>, pass: Option<Pass>, kind: Kind) {
+        self.count(kind);
         if let Some(stream) = stream {
             let _ = self.streams.push(stream);
         }
@@ -39,14 +56,15 @@ impl Returned {
         self.pass.take()
     }
 
-    /// How many that posted a day came back since this was asked.
-    fn take_posts(&mut self) -> usize
-        ensures all { result ≡ self.old.posts }
-        ensures none { self.new.posts ≡ 0 }
+    /// How many that posted a day, and that asked for what is kept, came back since this was asked.
+    fn take_counts(&mut self) -> (usize, usize)
+        ensures all { result ≡ (self.old.posts, self.old.reads) }
+        ensures none { (self.new.posts ≡ 0) × (self.new.reads ≡ 0) }
     {
-        let posts = self.posts;
+        let counts = (self.posts, self.reads);
         self.posts = 0;
-        posts
+        self.reads = 0;
+        counts
     }
 }
 
@@ -67,6 +85,7 @@ impl Threshold {
             returned: Mutex::new(Returned {
                 streams,
                 posts: 0,
+                reads: 0,
                 pass: None,
             }),
             waker,
@@ -90,13 +109,13 @@ impl Threshold {
         rt: &R,
         stream: Option<TcpStream>,
         pass: Option<Pass>,
-        posts: bool,
+        kind: Kind,
     ) {
         let stream = shut(stream);
-        if stream.is_none() && pass.is_none() && !posts {
+        if stream.is_none() && pass.is_none() && kind == Kind::Free {
             return;
         }
-        self.returned.lock(rt).put(stream, pass, posts);
+        self.returned.lock(rt).put(stream, pass, kind);
         let _ = self.waker.wake();
     }
 
@@ -110,9 +129,9 @@ impl Threshold {
         self.returned.lock(rt).next_pass()
     }
 
-    /// How many that posted a day came back since this was asked.
-    pub(crate) fn take_posts<R: Wait>(&self, rt: &R) -> usize {
-        self.returned.lock(rt).take_posts()
+    /// How many that posted a day, and that asked for what is kept, came back since this was asked.
+    pub(crate) fn take_counts<R: Wait>(&self, rt: &R) -> (usize, usize) {
+        self.returned.lock(rt).take_counts()
     }
 }
 

@@ -58,16 +58,18 @@ fn add<R: Drop>(ears: &mut Vec<TcpEar<R>>, ear: TcpEar<R>, port: u16) -> Result<
     Ok(())
 }
 
-/// How many of so many ears may be busy with connections that post a day: one at least, and of several all but one.
-fn most_posts(count: u8) -> usize
+/// How many of so many ears may be busy with connections that post a day, and how many with those that ask for what is
+/// kept: one at least, and of three and more all but two. As one more may be with both together, one ear is always free for
+/// all others.
+fn most_out(count: u8) -> usize
     requires { 1 ≤ count }
-    ensures one { count ≡ 1 → result ≡ 1 }
-    ensures free { 2 ≤ count → result + 1 ≡ count }
+    ensures one { count ≤ 3 → result ≡ 1 }
+    ensures free { 3 ≤ count → result + 2 ≡ count }
 {
-    (count - 1).max(1) as usize
+    count.saturating_sub(2).max(1) as usize
 }
 
-/// A room on a port, which so many ears share: all of them but one may be busy with connections that post a day.
+/// A room on a port, which so many ears share: all of them but one may be busy with connections for which others wait.
 fn open_room(
     host: HostRuntime,
     alloc: Global,
@@ -77,7 +79,7 @@ fn open_room(
     requires { 1 ≤ count }
     ensures { IfOk result (λ shared. IsOwnPort shared.at port) }
 {
-    let room = match WaitingRoom::open(host, alloc, port, most_posts(count)) {
+    let room = match WaitingRoom::open(host, alloc, port, most_out(count)) {
         Ok(room) => room,
         Err(RoomFault::Failed) => return Err(DoorFault::Failed),
         Err(RoomFault::NoMemory) => return Err(DoorFault::NoMemory),
@@ -148,13 +150,14 @@ impl<R: Wait + Copy + Drop + Send + Sync> Door for TcpDoor<R> {
 
     ghost accepted = { accepted_at };
 
-    ghost acceptors_for = { λ readers. max readers 3 };
+    ghost acceptors_for = { λ readers. max readers 6 };
 
     ghost hears = { HearsAt };
 
-    /// Three at least, so that one is free while a day is posted and what is left of another POST is done.
+    /// Six at least: one for a day that is posted, three for what is left of other POSTs, one for who asks for what is kept,
+    /// and one that is always free for all others.
     fn acceptors(&self, readers: u8) -> u8 {
-        readers.max(3)
+        readers.max(6)
     }
 
     fn open(&mut self, alloc: Global, port: u16, ears: u8) -> Result<Ears<TcpEar<R>>, DoorFault>

@@ -1,4 +1,4 @@
-// The shared desk whose jobs have threads of their own.
+// The shared desk over a crew of threads.
 ghost use Rattle.std.specs.Prelude.{◌≡◌, ◌≤◌, []};
 ghost use Rattle.road_time.specs.Fits.{IsLimits};
 

@@ -75,7 +75,7 @@ fn serve_named<
     (status, kept.into_keeper())
 }
 
-/// Serves the desk as `serve_words` does, with a crew that runs each job in a thread of its own.
+/// Serves the desk as `serve_words` does, with a crew that keeps one job for its caller and runs the others in threads.
 pub fn serve_in_threads<D: Door, K: Keeper + Send, R: Wait + Threads + Drop + Copy + Send + Sync>(
     rt: R,
     alloc: Global,

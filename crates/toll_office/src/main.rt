@@ -5,11 +5,10 @@
 //! cannot be had helps with nothing; with none of them the office's own thread runs all jobs.
 #![tactic(auto)]
 
-ghost use Rattle.std.specs.Prelude.{◌≡◌, ◌≢◌, ◌↔◌, ℕ, [], Some, None, map, false};
+ghost use Rattle.std.specs.Prelude.{◌≡◌, ◌≢◌, ◌↔◌, [], None, map, false};
 ghost use Rattle.std.specs.String.{string_bytes};
 ghost use Rattle.day_import.specs.Faults.{FaultsBeside};
 ghost use Rattle.office_commands.specs.Uses.{asked, uses_keeper};
-ghost use Rattle.office_ends.specs.Endings.{FaultsTold};
 ghost use Rattle.office_ends.specs.Words.{renewal_said};
 
 use keep_files::{Cause, KEPT_FILE, SqliteKeeper, close_said};
@@ -51,14 +50,11 @@ fn run_words<R: Threads + Sync, C: Crew>(
     requires { C.out crew.old ≡ [] }
     ensures words { renewal_said (map string_bytes words.now) ≡ None → result ≢ 5 → result ≢ 8
         → (result ≡ 1 ↔ (asked words.now ≡ None)) }
-    ensures keeper { renewal_said (map string_bytes words.now) ≡ None
-        → FaultsBeside (⟦<SqliteKeeper as Keeper>⟧.faults keeper.old) (⟦<SqliteKeeper as Keeper>⟧.faults keeper.new)
-        (⟦<SqliteKeeper as Keeper>⟧.plan keeper.old) (result ≡ 6) (result ≢ 5) }
+    ensures keeper { FaultsBeside (⟦<SqliteKeeper as Keeper>⟧.faults keeper.old)
+        (⟦<SqliteKeeper as Keeper>⟧.faults keeper.new) (⟦<SqliteKeeper as Keeper>⟧.plan keeper.old) (result ≡ 6)
+        (result ≢ 5) }
     ensures keeper_unused { renewal_said (map string_bytes words.now) ≡ None
         → uses_keeper (asked words.now) ≡ false → keeper.new ≡ keeper.old }
-    ensures renewing { (base : ℕ) → renewal_said (map string_bytes words.now) ≡ Some base
-        → FaultsTold (⟦<SqliteKeeper as Keeper>⟧.faults keeper.old) (⟦<SqliteKeeper as Keeper>⟧.faults keeper.new)
-        (⟦<SqliteKeeper as Keeper>⟧.plan keeper.old) result }
     ensures idle { C.out crew.new ≡ [] }
     ensures which { C.which crew.new ≡ C.which crew.old }
 {

@@ -7,7 +7,7 @@ use std::rt::HostRuntime;
 
 /// Whether the file at a path is exactly ours, so that its trees are read.
 pub fn is_ours(rt: HostRuntime, path: &str) -> Result<bool, KeepFault> {
-    match open_to_read::<KeptDisk>(&rt, path) {
+    match open_to_read::<KeptDisk>(&rt, path, 0) {
         Ok(Kept::Trees(_)) => Ok(true),
         Ok(Kept::Whole(_)) => Ok(false),
         Err(_) => Err(KeepFault::Failed),

@@ -5,7 +5,7 @@ ghost use Rattle.keep_office.specs.Renewed.{anew};
 ghost use Rattle.keep_tables.specs.Steps.{FitsAny};
 ghost use Rattle.keep_puts.specs.Room.{RoomAnew};
 ghost use Rattle.keep_puts.specs.Puts.{PutsAnew};
-ghost use Rattle.keep_files.specs.Anew.{AskedAnew, IsAnewByTrees};
+ghost use Rattle.keep_files.specs.Anew.{AnewReady, AskedAnew, IsAnewByTrees};
 ghost use Rattle.keep_files.specs.Causes.{IsSaid};
 ghost use Rattle.keep_files.specs.Origins.{TriesPath};
 ghost use Rattle.keep_files.specs.Storing.{FindsAny, PutsInto};
@@ -23,7 +23,28 @@ impl<S: Opens<P>, P: Pages + Drop> Database<S, P> {
     /// Begins anew with a history, in the store of the trees of the file, which has to be exactly ours.
     pub(crate) fn put_anew(&mut self, kept: &PastRecord, rows: &[SpentRow]) -> Result<(), KeepFault>
         requires { IsPastPut kept.now rows.now }
-        ensures does { AskedAnew P.Pages S.Store S.Opens.gives S.Opens.refuses S.Opens.foreign
+        ensures does { AskedAnew P.Pages S.Store S.Opens.gives S.Opens.refuses S.Opens.foreign S.Opens.there S.Opens.gone
+            (PutsInto S.Store (RoomAnew rows.now) FitsAny (anew kept.now rows.now)
+            FindsAny (PutsAnew kept.now rows.now))
+            self.old.places self.new.places
+            self.old.kept (string_bytes self.old.path) self.new.kept self.new.cause result }
+        ensures tried { TriesPath S.Store S.Opens.gives S.Opens.refuses (string_bytes self.old.path) self.old.kept }
+        ensures said { IsSaid result self.old.cause self.new.cause }
+        ensures stays { self.new.path ≡ self.old.path }
+    {
+        match self.look() {
+            Ok(()) => {
+                let answer = self.put_anew_ready(kept, rows);
+                self.confirmed(answer)
+            }
+            Err(fault) => Err(fault),
+        }
+    }
+
+    /// Begins anew with a history, in the store of the trees of what is held, or of what is opened for it.
+    fn put_anew_ready(&mut self, kept: &PastRecord, rows: &[SpentRow]) -> Result<(), KeepFault>
+        requires { IsPastPut kept.now rows.now }
+        ensures does { AnewReady P.Pages S.Store S.Opens.gives S.Opens.refuses S.Opens.foreign
             (PutsInto S.Store (RoomAnew rows.now) FitsAny (anew kept.now rows.now)
             FindsAny (PutsAnew kept.now rows.now))
             self.old.kept (string_bytes self.old.path) self.new.kept self.new.cause result }

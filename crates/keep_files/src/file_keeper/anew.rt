@@ -27,9 +27,10 @@ impl<D: AtPath> FileKeeper<D> {
         requires { IsPastPut kept.now rows.now }
         ensures does { AskedAnew ⟦<Pool<D> as Pages>⟧ ⟦<FileStore<D> as Store>⟧
             ⟦<FileStore<D> as Opens<Pool<D>>>⟧.gives ⟦<FileStore<D> as Opens<Pool<D>>>⟧.refuses
-            ⟦<FileStore<D> as Opens<Pool<D>>>⟧.foreign
+            ⟦<FileStore<D> as Opens<Pool<D>>>⟧.foreign ⟦<FileStore<D> as Opens<Pool<D>>>⟧.there ⟦<FileStore<D> as Opens<Pool<D>>>⟧.gone
             (PutsInto ⟦<FileStore<D> as Store>⟧ (RoomAnew rows.now) FitsAny (anew kept.now rows.now)
             FindsAny (PutsAnew kept.now rows.now))
+            self.old.in_file.database.places self.new.in_file.database.places
             self.old.in_file.database.kept (string_bytes self.old.in_file.database.path)
             self.new.in_file.database.kept self.new.in_file.database.cause result }
         ensures tried { TriesPath ⟦<FileStore<D> as Store>⟧ ⟦<FileStore<D> as Opens<Pool<D>>>⟧.gives

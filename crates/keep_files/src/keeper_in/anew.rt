@@ -22,9 +22,10 @@ impl<S: Opens<P>, P: Pages + Drop> KeeperIn<S, P> {
     /// Begins anew with a history, and counts the call where it failed.
     pub fn put_anew(&mut self, kept: &PastRecord, rows: &[SpentRow]) -> Result<(), KeepFault>
         requires { IsPastPut kept.now rows.now }
-        ensures does { AskedAnew P.Pages S.Store S.Opens.gives S.Opens.refuses S.Opens.foreign
+        ensures does { AskedAnew P.Pages S.Store S.Opens.gives S.Opens.refuses S.Opens.foreign S.Opens.there S.Opens.gone
             (PutsInto S.Store (RoomAnew rows.now) FitsAny (anew kept.now rows.now)
             FindsAny (PutsAnew kept.now rows.now))
+            self.old.database.places self.new.database.places
             self.old.database.kept (string_bytes self.old.database.path)
             self.new.database.kept self.new.database.cause result }
         ensures tried { TriesPath S.Store S.Opens.gives S.Opens.refuses

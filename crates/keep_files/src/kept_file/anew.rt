@@ -29,9 +29,10 @@ impl Renews for SqliteKeeper {
         ensures said { Says result self.old.in_file.in_file.database self.new.in_file.in_file.database }
         ensures does { AskedAnew ⟦<KeptPages as Pages>⟧ ⟦<KeptStore as Store>⟧
             ⟦<KeptStore as Opens<KeptPages>>⟧.gives ⟦<KeptStore as Opens<KeptPages>>⟧.refuses
-            ⟦<KeptStore as Opens<KeptPages>>⟧.foreign
+            ⟦<KeptStore as Opens<KeptPages>>⟧.foreign ⟦<KeptStore as Opens<KeptPages>>⟧.there ⟦<KeptStore as Opens<KeptPages>>⟧.gone
             (PutsInto ⟦<KeptStore as Store>⟧ (RoomAnew rows.now) FitsAny (anew kept.now rows.now)
             FindsAny (PutsAnew kept.now rows.now))
+            self.old.in_file.in_file.database.places self.new.in_file.in_file.database.places
             self.old.in_file.in_file.database.kept (string_bytes self.old.in_file.in_file.database.path)
             self.new.in_file.in_file.database.kept self.new.in_file.in_file.database.cause result }
     {

@@ -18,6 +18,7 @@ pub(crate) const BODY: &str = "</style>
 <header>
 <h1>Toll office</h1>
 <span id='state' role='status'>asks the server</span>
+<span class='soft' id='answered'></span>
 </header>
 <main>
 <section id='wrong' role='alert' aria-labelledby='wrong-name' hidden>
@@ -34,6 +35,7 @@ pub(crate) const BODY: &str = "</style>
 <div><dt class='total'>total of tolls</dt><dd id='total'></dd></div>
 <div><dt>tuples a second</dt><dd id='pace'></dd></div>
 </dl>
+<p id='course' role='status'></p>
 <svg id='curve' viewBox='0 0 600 200' preserveAspectRatio='none' role='img' aria-labelledby='span-text'>
 <line class='grid' x1='0' y1='50' x2='600' y2='50'/><line class='grid' x1='0' y1='100' x2='600' y2='100'/>
 <line class='grid' x1='0' y1='150' x2='600' y2='150'/><line class='axis' x1='0' y1='199' x2='600' y2='199'/>

@@ -1,7 +1,16 @@
 // The script of the page, where it shows something.
 
 /// How the page shows what it keeps.
-pub(crate) const SHOWING: &str = "// one row of a table
+pub(crate) const SHOWING: &str = "// sets a text where it is another, so that a reader of
+// the screen speaks of what changed alone
+function say(id, text) {
+  if (at(id).textContent !== text) at(id).textContent = text;
+}
+
+// the greatest of some numbers, and of 1
+const greatest = numbers => numbers.reduce((most, n) => Math.max(most, n), 1);
+
+// one row of a table
 function row(cells) {
   const line = document.createElement('tr');
   for (const cell of cells) {
@@ -16,8 +25,8 @@ function showCurve() {
   const samples = told.samples;
   const from = samples[0].time;
   const to = samples[samples.length - 1].time;
-  const most = Math.max(1, ...samples.map(s => s.total));
-  const far = Math.max(1, ...samples.map(s => s.mark));
+  const most = greatest(samples.map(s => s.total));
+  const far = greatest(samples.map(s => s.mark));
   const x = s => to > from ? 600 * (s.time - from) / (to - from) : 600;
   const points = value => samples.map(s => x(s).toFixed(1) + ',' + (198 - 190 * value(s)).toFixed(1)).join(' ');
   at('total-line').setAttribute('points', points(s => s.total / most));
@@ -25,7 +34,8 @@ function showCurve() {
   at('area').setAttribute('points', '0,199 ' + points(s => s.total / most) + ' 600,199');
   at('span-from').textContent = new Date(from).toLocaleTimeString();
   at('span-to').textContent = new Date(to).toLocaleTimeString();
-  at('span-text').textContent = 'up to a total of ' + digits(most) + ' and tuple ' + digits(far);
+  const last = told.live;
+  at('span-text').textContent = 'up to a total of ' + digits(last.total) + ' and tuple ' + digits(last.as_of);
 }
 
 function showLive() {
@@ -42,6 +52,7 @@ function showLive() {
   const last = recent[recent.length - 1];
   const pace = last.time > first.time ? 1000 * (last.mark - first.mark) / (last.time - first.time) : 0;
   at('pace').textContent = pace >= 0.5 ? digits(Math.round(pace)) : 'stands';
+  say('course', course());
   showCurve();
 }
 
@@ -70,8 +81,9 @@ function showDays() {
   const days = told.days;
   at('no-days').hidden = !days || days.length > 0;
   at('days').hidden = !days || days.length === 0;
-  if (!days) return;
-  const most = Math.max(1, ...days.map(d => Number(d.total)));
+  if (!days || days === told.listed) return;
+  told.listed = days;
+  const most = greatest(days.map(d => Number(d.total)));
   at('day-rows').replaceChildren(...days.slice().reverse().map(d => {
     const bar = document.createElement('div');
     bar.style.width = 100 * Number(d.total) / most + '%';
@@ -84,7 +96,8 @@ function showDays() {
 function show() {
   const lost = told.wrong.has('server');
   at('state').className = lost ? 'bad' : told.answered ? 'good' : '';
-  at('state').textContent = lost ? 'no answer' : 'answered at ' + new Date(told.answered).toLocaleTimeString();
+  say('state', lost ? 'no answer' : told.answered ? 'answers' : 'asks the server');
+  at('answered').textContent = told.answered ? 'last at ' + new Date(told.answered).toLocaleTimeString() : '';
   const problems = [...told.wrong.values()];
   at('wrong').hidden = problems.length === 0;
   if (at('problems').dataset.text !== problems.join()) {

@@ -1,7 +1,7 @@
 // What is said of a run that failed, beside what it writes.
 use super::runs::{ANSWERED, ONE};
-use keep_office::MemKeeper;
-use office_ends::explained;
+use keep_office::AnewKeeper;
+use office_ends::answered;
 use road_io::{MemSink, MemSource};
 use road_time::Limits;
 use std::alloc::Global;
@@ -41,10 +41,10 @@ fn is_so<R: Threads + Sync>(rt: &R, alloc: Global, row: &Row) -> Result<bool, Fa
     let mut aside = MemSource::new(alloc, b"", 7, &[])?;
     let mut sink = MemSink::new(alloc, 2000, 5)?;
     let mut err = MemSink::new(alloc, row.room, 5)?;
-    let mut keeper = MemKeeper::new(alloc, row.keeper_fails)?;
+    let mut keeper = AnewKeeper::new(alloc, row.keeper_fails)?;
     let mut crew = InlineCrew::new(alloc, false);
     let cause = row.cause;
-    let status = explained(
+    let status = answered(
         rt,
         alloc,
         words.as_slice(),
@@ -53,7 +53,7 @@ fn is_so<R: Threads + Sync>(rt: &R, alloc: Global, row: &Row) -> Result<bool, Fa
         &mut aside,
         &mut sink,
         &mut keeper,
-        &|_keeper: &MemKeeper| line_of(alloc, cause),
+        &|_keeper: &AnewKeeper| line_of(alloc, cause),
         &mut err,
         &mut crew,
     );

@@ -1,5 +1,5 @@
-// Days whose refused lines are all named.
-use super::runs::{ONE, STEP, Step, each_ends, each_of_new, ends_so, one_step};
+// Days whose refused lines are all named, where something fails or little is allowed.
+use super::runs::{ONE, STEP, Step, each_ends, each_of_new, ends_so};
 use road_time::Limits;
 use std::alloc::Global;
 use std::test::Fail;
@@ -30,46 +30,8 @@ const MIXED: Step<'static> = Step {
     ..EMPTY
 };
 
-/// A vehicle's fifth and sixth report in a minute, and its next.
-const OFTEN: Step<'static> = Step {
-    input: b"0,0,7,30,0,0,0,10,52800,-1,-1,-1,-1,-1,-1\n\
-        0,0,7,30,0,0,0,10,52800,-1,-1,-1,-1,-1,-1\n\
-        0,0,7,30,0,0,0,10,52800,-1,-1,-1,-1,-1,-1\n\
-        0,0,7,30,0,0,0,10,52800,-1,-1,-1,-1,-1,-1\n\
-        0,30,7,30,0,0,0,10,52800,-1,-1,-1,-1,-1,-1\n\
-        0,30,7,30,0,0,0,10,52800,-1,-1,-1,-1,-1,-1\n\
-        0,10,8,30,0,0,0,10,52800,-1,-1,-1,-1,-1,-1\n\
-        0,60,7,30,0,0,0,10,52800,-1,-1,-1,-1,-1,-1",
-    text: "5 too-often 7 1\n6 too-often 7 1\n# checked day 100 good 6 refused 2\n",
-    status: 2,
-    ..EMPTY
-};
-
-/// Whole days, refused lines, lateness, faults and words.
-const ENDS: [Step<'static>; 16] = [
-    EMPTY,
-    Step {
-        input: ONE,
-        text: "# checked day 100 good 1 refused 0\n",
-        ..EMPTY
-    },
-    Step {
-        input: b"\n\r\n\r",
-        text: "# checked day 100 good 3 refused 0\n",
-        ..EMPTY
-    },
-    MIXED,
-    Step {
-        words: &["check", "--late=60", "70"],
-        text: "2 fields 1\n6 range 8\n7 number 6\n# checked day 70 good 6 refused 3\n",
-        ..MIXED
-    },
-    Step {
-        words: &["check", "1000000", "--late", "59"],
-        text: "2 fields 1\n4 late 60 0\n6 range 8\n7 number 6\n# checked day 1000000 good 5 refused 4\n",
-        ..MIXED
-    },
-    OFTEN,
+/// Reads that fail, and a sink that is small.
+const ENDS: [Step<'static>; 5] = [
     Step {
         input_fails: &[0],
         text: "# read fault\n",
@@ -98,34 +60,10 @@ const ENDS: [Step<'static>; 16] = [
         status: 5,
         ..MIXED
     },
-    Step {
-        words: &["check"],
-        text: "# words\n",
-        status: 1,
-        ..MIXED
-    },
-    Step {
-        words: &["check", "69"],
-        text: "# words\n",
-        status: 1,
-        ..MIXED
-    },
-    Step {
-        words: &["check", "100", "--late", "121"],
-        text: "# words\n",
-        status: 1,
-        ..MIXED
-    },
-    Step {
-        words: &["check", "100", "--workers", "2"],
-        text: "# words\n",
-        status: 1,
-        ..MIXED
-    },
 ];
 
 #[test]
-fn each_refused_line_is_named(rt: HostRuntime) -> Result<(), Fail> {
+fn checks_that_meet_a_fault(rt: HostRuntime) -> Result<(), Fail> {
     each_ends(&rt, rt.alloc(), &ENDS)
 }
 
@@ -168,35 +106,6 @@ fn behind_a_long_line_more_is_read(rt: HostRuntime) -> Result<(), Fail> {
         );
     }
     Ok(())
-}
-
-/// Refused lines, 1,001 of them, a good one behind them, and the names of the first 1,000.
-fn a_thousand_and_one(alloc: Global) -> Result<(Vec<u8>, String), Fail> {
-    let mut input = Vec::new(alloc);
-    let mut text = String::new(alloc);
-    for line in 1..1002u32 {
-        input.extend_from_slice(b"x,y\n")?;
-        if line <= 1000 {
-            let named = format!(in alloc; "{line} fields 2\n")?;
-            text.push_str(named.as_str())?;
-        }
-    }
-    input.extend_from_slice(ONE)?;
-    text.push_str("# checked day 100 good 1 refused 1001\n")?;
-    Ok((input, text))
-}
-
-/// More refused lines than are named: the first 1,000 are.
-#[test]
-fn a_thousand_lines_are_named(rt: HostRuntime) -> Result<(), Fail> {
-    let (input, text) = a_thousand_and_one(rt.alloc())?;
-    let read = Step {
-        input_piece: 64,
-        room: 100_000,
-        output_piece: 64,
-        ..one_step(CHECK, input.as_slice(), b"", text.as_str(), 2)
-    };
-    each_ends(&rt, rt.alloc(), &[read])
 }
 
 /// Refused lines among good ones, of one vehicle too many and of lines too many.

@@ -1,13 +1,11 @@
-// The lists of the kept days and of what was charged on some days.
+// The lists of the kept days and of what was charged on some days, where something fails.
 use super::days::{FIFTY_ONE, LEAVES, day, told};
-use super::runs::{ONE, STEP, Step, each_of_new, each_writes, one_step};
+use super::runs::{ONE, STEP, Step, each_writes, one_step};
 use keep_office::MemKeeper;
 use std::alloc::Global;
 use std::process::Abort;
 use std::test::Fail;
 use std::thread::Threads;
-
-const DAYS: &[&str] = &["days"];
 
 /// Amounts of the days 99, 98, 97, 95, 94 and 31, the one of day 97 not kept.
 const SEVERAL: &[u8] = b"9,1,3,4\n7,69,0,28\n7,1,0,5\n7,2,3,10\n2147483647,5,255,9999999999\n\
@@ -17,26 +15,12 @@ const SEVERAL: &[u8] = b"9,1,3,4\n7,69,0,28\n7,1,0,5\n7,2,3,10\n2147483647,5,255
 pub const LISTED: &str = "day 100 tuples 56 notices 55 total 2 digest 666b265381326509\n\
     day 102 tuples 1 notices 1 total 0 digest fc2f0b2e7199ba75\n# days 2 last 102\n";
 
-/// What was charged then on some days.
-const CHARGED: [(&[&str], &str); 8] = [
-    (
-        &["charges", "1", "1000000"],
-        "vid,xway,tolls\n7,0,33\n7,3,10\n9,3,4\n100,0,2\n2147483647,255,19999999998\n",
-    ),
-    (&["charges", "31", "31"], "vid,xway,tolls\n7,0,28\n"),
-    (&["charges", "32", "93"], "vid,xway,tolls\n"),
-    (
-        &["charges", "94", "95"],
-        "vid,xway,tolls\n2147483647,255,19999999998\n",
-    ),
-    (
-        &["charges", "99", "100"],
-        "vid,xway,tolls\n7,0,5\n9,3,4\n100,0,2\n",
-    ),
-    (&["charges", "100", "100"], "vid,xway,tolls\n100,0,2\n"),
-    (&["charges", "101", "1000000"], "vid,xway,tolls\n"),
-    (&["charges", "1", "30"], "vid,xway,tolls\n"),
-];
+/// What was charged then on all days.
+const CHARGES: Step<'static> = Step {
+    words: &["charges", "1", "1000000"],
+    text: "vid,xway,tolls\n7,0,33\n7,3,10\n9,3,4\n100,0,2\n2147483647,255,19999999998\n",
+    ..STEP
+};
 
 /// What day 100 is told behind its crowd.
 const STORED: &str =
@@ -50,21 +34,11 @@ const PAST: Step<'static> = Step {
     ..STEP
 };
 
-/// The days are listed where none is kept, where a history alone is, and where the two are.
-const NO_DAYS: Step<'static> = Step {
-    words: DAYS,
-    text: "# days 0 last 0\n",
-    ..STEP
-};
-
-const PAST_ALONE: Step<'static> = Step {
-    text: "# days 0 last 99\n",
-    ..NO_DAYS
-};
-
+/// The list of the two days.
 const TWO_DAYS: Step<'static> = Step {
+    words: &["days"],
     text: LISTED,
-    ..NO_DAYS
+    ..STEP
 };
 
 /// A call of a list fails.
@@ -104,38 +78,6 @@ fn each_of_kept<R: Abort + Threads + Sync>(
 ) -> Result<(), Fail> {
     let mut keeper = kept(rt, alloc, fails)?;
     each_writes(rt, alloc, &mut keeper, steps)
-}
-
-/// An office that keeps nothing, one with a history alone, and one with days.
-#[test]
-fn days_that_are_kept(rt: HostRuntime) -> Result<(), Fail> {
-    each_of_new(&rt, rt.alloc(), &[], &[NO_DAYS, PAST, PAST_ALONE])?;
-    each_of_kept(&rt, rt.alloc(), &[], &[TWO_DAYS])
-}
-
-/// What was charged on some days, before and behind all that is kept too.
-#[test]
-fn charges_of_some_days(rt: HostRuntime) -> Result<(), Fail> {
-    let none = Step {
-        words: &["charges", "1", "1000000"],
-        text: "vid,xway,tolls\n",
-        ..STEP
-    };
-    each_of_new(&rt, rt.alloc(), &[], &[none])?;
-    let mut keeper = kept(&rt, rt.alloc(), &[])?;
-    for (words, text) in CHARGED {
-        each_writes(
-            &rt,
-            rt.alloc(),
-            &mut keeper,
-            &[Step {
-                words,
-                text,
-                ..STEP
-            }],
-        )?;
-    }
-    Ok(())
 }
 
 /// Each call of a list fails, and no other.
@@ -189,16 +131,6 @@ fn is_cut_in_each<R: Abort + Threads + Sync>(
 #[test]
 fn each_room_is_too_small_for_a_list(rt: HostRuntime) -> Result<(), Fail> {
     let mut keeper = kept(&rt, rt.alloc(), &[])?;
-    let (words, text) = CHARGED[0];
     is_cut_in_each(&rt, rt.alloc(), TWO_DAYS, &mut keeper)?;
-    is_cut_in_each(
-        &rt,
-        rt.alloc(),
-        Step {
-            words,
-            text,
-            ..STEP
-        },
-        &mut keeper,
-    )
+    is_cut_in_each(&rt, rt.alloc(), CHARGES, &mut keeper)
 }

@@ -3,7 +3,7 @@ use super::days::{FIFTY_ONE, LEAVES, day};
 use super::listings::LISTED;
 use super::runs::{ONE, STEP, Step, each_writes, is_right, run_on};
 use keep_office::{AnewKeeper, Keeper, MemKeeper, PastRecord};
-use office_ends::{begin_anew, renewal_base};
+use office_ends::{begin_anew, renewal_base, renewal_drop};
 use road_io::MemSink;
 use road_time::Limits;
 use std::alloc::Global;
@@ -62,13 +62,16 @@ fn kept<R: Abort + Threads + Sync>(
     Ok(keeper)
 }
 
-/// The base that words ask for.
-fn base_of(alloc: Global, words: &[&str]) -> Result<Option<u32>, Fail> {
+/// The base that words ask for, and the number of amounts that they name.
+fn said(alloc: Global, words: &[&str]) -> Result<(Option<u32>, Option<u64>), Fail> {
     let mut owned = Vec::new(alloc);
     for word in words {
         owned.push(String::from_str(alloc, word)?)?;
     }
-    Ok(renewal_base(owned.as_slice()))
+    Ok((
+        renewal_base(owned.as_slice()),
+        renewal_drop(owned.as_slice()),
+    ))
 }
 
 /// Whether an office that begins anew where the words ask for it, and else does what they do, writes a step's text and
@@ -79,14 +82,15 @@ fn is_right_anew<R: Threads + Sync>(
     step: &Step<'_>,
     keeper: &mut AnewKeeper,
 ) -> Result<bool, Fail> {
-    let Some(base) = base_of(alloc, step.words)? else {
+    let (asked, named) = said(alloc, step.words)?;
+    let Some(base) = asked else {
         return is_right(rt, alloc, &Limits::DAY, step, keeper);
     };
     if base < 70 {
         return Ok(false);
     }
     let mut sink = MemSink::new(alloc, step.room, 5)?;
-    let status = begin_anew(alloc, base, &mut sink, keeper);
+    let status = begin_anew(alloc, base, named, &mut sink, keeper);
     Ok(sink.bytes() == step.text.as_bytes() && status == step.status)
 }
 
@@ -126,7 +130,7 @@ const RENEWED: [Step<'static>; 6] = [
     EARLY,
     Step {
         words: &["renew", "103"],
-        text: "# renewed base 103 rows 6\n",
+        text: "# renewed base 103 rows 6 dropped 0\n",
         ..STEP
     },
     ANSWERS,
@@ -142,15 +146,56 @@ const RENEWED: [Step<'static>; 6] = [
     },
 ];
 
-/// And once more, when nothing is young enough to be carried.
-const AGAIN: [Step<'static>; 2] = [
+/// And once more, where all six amounts are too old to be carried: their number has to be named.
+const AGAIN: [Step<'static>; 4] = [
     EARLY,
     Step {
         words: &["renew", "172"],
-        text: "# renewed base 172 rows 0\n",
+        text: "# renew drops rows 6\n",
+        status: 3,
+        ..STEP
+    },
+    Step {
+        words: &["renew", "--drop", "5", "172"],
+        text: "# renew drops rows 6\n",
+        status: 3,
+        ..STEP
+    },
+    Step {
+        words: &["renew", "172", "--drop", "6"],
+        text: "# renewed base 172 rows 0 dropped 6\n",
         ..STEP
     },
 ];
+
+/// Bases above the day after the last kept one: with the first no amount goes, with the second those of days 94 and 95.
+const DROPPED: [Step<'static>; 4] = [
+    Step {
+        words: &["renew", "104"],
+        text: "# renew drops rows 0\n",
+        status: 3,
+        ..STEP
+    },
+    Step {
+        words: &["renew", "165", "--drop", "0"],
+        text: "# renew drops rows 2\n",
+        status: 3,
+        ..STEP
+    },
+    ANSWERS,
+    Step {
+        words: &["renew", "165", "--drop", "2"],
+        text: "# renewed base 165 rows 4 dropped 2\n",
+        ..STEP
+    },
+];
+
+/// An office that keeps nothing begins at any base.
+const EMPTY: Step<'static> = Step {
+    words: &["renew", "1000000"],
+    text: "# renewed base 1000000 rows 0 dropped 0\n",
+    ..STEP
+};
 
 /// The history of a new office that takes what is carried.
 fn carried<R: Abort + Threads + Sync>(rt: &R, alloc: Global) -> Result<Option<PastRecord>, Fail> {
@@ -181,6 +226,16 @@ fn begun_anew_at_a_day(rt: HostRuntime) -> Result<(), Fail> {
     each_anew(&rt, alloc, &mut keeper, &AGAIN)
 }
 
+/// What would go has to be named, where something is kept.
+#[test]
+fn amounts_that_go_are_named(rt: HostRuntime) -> Result<(), Fail> {
+    let alloc = rt.alloc();
+    let mut keeper = kept(&rt, alloc, &[])?;
+    each_anew(&rt, alloc, &mut keeper, &DROPPED)?;
+    let mut empty = AnewKeeper::new(alloc, &[])?;
+    each_anew(&rt, alloc, &mut empty, &[EMPTY])
+}
+
 /// A call of a renewal fails, and the office is as it was.
 const AS_BEFORE: [Step<'static>; 3] = [
     Step {
@@ -201,7 +256,7 @@ const AS_BEFORE: [Step<'static>; 3] = [
 #[test]
 fn a_call_of_a_renewal_fails(rt: HostRuntime) -> Result<(), Fail> {
     let alloc = rt.alloc();
-    for call in 0..3 {
+    for call in 0..5 {
         let mut keeper = kept(&rt, alloc, &[CALLS + call])?;
         each_anew(&rt, alloc, &mut keeper, &AS_BEFORE)?;
     }
@@ -209,7 +264,7 @@ fn a_call_of_a_renewal_fails(rt: HostRuntime) -> Result<(), Fail> {
 }
 
 /// Words, and the base that they ask for.
-const SAID: [(&[&str], Option<u32>); 12] = [
+const SAID: [(&[&str], Option<u32>); 20] = [
     (&["renew", "70"], Some(70)),
     (&["renew", "1000000"], Some(1_000_000)),
     (&["renew", "--", "103"], Some(103)),
@@ -219,6 +274,17 @@ const SAID: [(&[&str], Option<u32>); 12] = [
     (&["renew", "1000001"], None),
     (&["renew", "-103"], None),
     (&["renew", "103", "104"], None),
+    (&["renew", "103", "--drop", "0"], Some(103)),
+    (
+        &["renew", "--drop", "18446744073709551615", "103"],
+        Some(103),
+    ),
+    (&["renew", "103", "--drop", "18446744073709551616"], None),
+    (&["renew", "103", "--drop", "-1"], None),
+    (&["renew", "103", "--drop"], None),
+    (&["renew", "103", "--drop=6"], None),
+    (&["renew", "103", "6", "--drop"], None),
+    (&["renew", "--", "103", "--drop", "6"], None),
     (&["renew"], None),
     (&["past", "103"], None),
     (&[], None),
@@ -228,7 +294,7 @@ const SAID: [(&[&str], Option<u32>); 12] = [
 #[test]
 fn words_of_a_renewal(rt: HostRuntime) -> Result<(), Fail> {
     for (words, base) in SAID {
-        assert_eq!(rt; base_of(rt.alloc(), words)?, base);
+        assert_eq!(rt; said(rt.alloc(), words)?.0, base);
     }
     Ok(())
 }

@@ -1,6 +1,6 @@
 // How many tuples may wait: what was written of a day before its reading failed.
 use super::days::{Crowd, FIFTY_ONE, LEAVES, day, told};
-use super::runs::{ANSWERED, ONE, STEP, Step, each_of_new, ends_so, one_step, run};
+use super::runs::{Step, ends_so, one_step, run};
 use road_time::Limits;
 use std::alloc::Global;
 use std::test::Fail;
@@ -50,44 +50,4 @@ fn told_before_a_read_fault(rt: HostRuntime) -> Result<(), Fail> {
         assert!(rt; is_told(&rt, rt.alloc(), words)?);
     }
     Ok(())
-}
-
-/// What is told behind a crowd of fifty-one.
-const STORED: &str = "0,100,60,30,2\n0,100,90,-1,0\n0,100,150,-1,0\n2,160,9,2\n\
-    # stored day 100 tuples 56 notices 55 total 2\n";
-
-/// Imports by a backlog of so many tuples.
-const IMPORTS: [&[&str]; 7] = [
-    &["import", "100", "--backlog", "1", "--workers", "2"],
-    &["import", "100", "--backlog", "2", "--workers", "2"],
-    &["import", "100", "--backlog", "7", "--workers", "2"],
-    &["import", "100", "--backlog", "55", "--workers", "2"],
-    &["import", "100", "--backlog", "56", "--workers", "2"],
-    &["import", "100", "--backlog", "57", "--workers", "2"],
-    &["import", "100", "--backlog", "65536", "--workers", "2"],
-];
-
-/// One line, by a backlog of one tuple.
-const ONE_WAITS: Step<'static> = Step {
-    words: &["answers", "--backlog=1", "100"],
-    input: ONE,
-    text: ANSWERED,
-    ..STEP
-};
-
-/// No text and nothing that is kept depends on how many may wait.
-#[test]
-fn a_day_by_any_backlog(rt: HostRuntime) -> Result<(), Fail> {
-    let input = day(rt.alloc(), &FIFTY_ONE, &[&LEAVES])?;
-    let stored = told(rt.alloc(), &FIFTY_ONE, STORED)?;
-    for words in IMPORTS {
-        let import = one_step(words, input.as_slice(), b"", stored.as_str(), 0);
-        let again = Step {
-            words: &["import", "100"],
-            text: "# already day 100 tuples 56 notices 55 total 2\n",
-            ..import
-        };
-        each_of_new(&rt, rt.alloc(), &[], &[import, again])?;
-    }
-    each_of_new(&rt, rt.alloc(), &[], &[ONE_WAITS])
 }

@@ -24,5 +24,5 @@ returns-in-Err-connected-clause-refused g c =
     (inr (
       c.in-Ok-open.files,
       c.in-Ok-open.ensures.opened,
-      (c.in-Err-trees_of.files, c.in-Err-trees_of.ensures.left, c.in-Err-connected.ensures.refused),
+      inr (c.in-Err-trees_of.files, c.in-Err-trees_of.ensures.left, c.in-Err-connected.ensures.refused),
     ))

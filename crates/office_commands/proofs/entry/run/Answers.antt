@@ -1,4 +1,4 @@
-use Rattle.std.proofs.Common.{◌≡◌, ◌∙◌, [], inl, Option, Some, Err, ap, sym, subst, refl, arith}
+use Rattle.std.proofs.Common.{◌≡◌, ◌∙◌, [], inl, Option, Some, Ok, Err, ap, sym, subst, refl, arith}
 use Rattle.std.proofs.lemmas.Option.{none-some}
 use Rattle.road_io.proofs.SinkLaws.{appends_none}
 use Rattle.road_io.specs.Within.{ReadsWithin}
@@ -14,6 +14,9 @@ use Rattle.office_commands.proofs.PutLaws.{puts_same}
 use Rattle.office_commands.proofs.StatusLaws.{read_other, rest_other}
 use Rattle.office_commands.proofs.entry.run.Goals as goal
 use Rattle.office_commands.specs.Starts.{StartsAsked, SeesAsked}
+use Rattle.office_commands.specs.Sums.{WroteSound}
+use Rattle.office_commands.specs.declared.closing.Closing.TheVariants.{NoMemory, Words}
+use Rattle.office_commands.proofs.SumLaws.{sound_else}
 use Rattle.office_commands.proofs.StartLaws.{starts_other, sees_other}
 
 pub returns-in-Ok-clause-wrote : goal.returns-in-Ok-clause-wrote
@@ -238,3 +241,17 @@ pub returns-in-Err-NoMemory-clause-by : goal.returns-in-Err-NoMemory-clause-by
 returns-in-Err-NoMemory-clause-by g c =
     sees_other 8 (λ s. omega (arith, s)) (λ s. omega (arith, s)) (λ s. omega (arith, s)) (asked c.args.words.now)
     c.args.shards_seen.now
+
+pub returns-in-Ok-clause-sums : goal.returns-in-Ok-clause-sums
+returns-in-Ok-clause-sums g c =
+    let is = meant _ c.in-Ok.command c.read_words.result c.read_words.ensures.reads c.in-Ok.is in
+    subst (λ (m : Option Command). WroteSound m c.perform.result (g.O.Sink.written c.args.sink.now)
+    (g.O.Sink.written c.perform.new.sink)) (sym is) c.perform.ensures.sums
+
+pub returns-in-Err-Words-clause-sums : goal.returns-in-Err-Words-clause-sums
+returns-in-Err-Words-clause-sums g c =
+    sound_else (asked c.args.words.now) (Ok (Some Words)) _ _ (λ zero. omega (arith, zero))
+
+pub returns-in-Err-NoMemory-clause-sums : goal.returns-in-Err-NoMemory-clause-sums
+returns-in-Err-NoMemory-clause-sums g c =
+    sound_else (asked c.args.words.now) (Ok (Some NoMemory)) _ _ (λ zero. omega (arith, zero))

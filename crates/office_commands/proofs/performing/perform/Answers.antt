@@ -222,6 +222,9 @@ returns-in-Day-clause-does g c = λ bytes lines o told kept.
     (rw c.in-Day.is (report_office _ _ o)) (returns-in-Day-clause-wrote g c bytes lines o told)
     (returns-in-Day-clause-keeps g c bytes lines o told.right told.source_is kept)
 
+pub returns-in-Day-clause-sums : goal.returns-in-Day-clause-sums
+returns-in-Day-clause-sums g c = rw c.in-Day.is c.day.ensures.sums
+
 -- `vehicle VID FROM TO`
 pub returns-in-Vehicle-clause-wrote : goal.returns-in-Vehicle-clause-wrote
 returns-in-Vehicle-clause-wrote g c = λ bytes lines o told.
@@ -432,3 +435,45 @@ pub returns-in-Check-clause-read : goal.returns-in-Check-clause-read
 returns-in-Check-clause-read g c =
     by_source _ _ _ _ _ _ _ _ (Unit {0}) _ (ap source_of c.in-Check.is) (λ bad. bad) (λ bad. bad) (λ calm. tt)
     (beside _ _ _ _ _ c.check.ensures.source)
+
+pub returns-in-Answers-clause-sums : goal.returns-in-Answers-clause-sums
+returns-in-Answers-clause-sums g c = rw c.in-Answers.is tt
+
+pub returns-in-Import-clause-sums : goal.returns-in-Import-clause-sums
+returns-in-Import-clause-sums g c = rw c.in-Import.is tt
+
+pub returns-in-Compare-clause-sums : goal.returns-in-Compare-clause-sums
+returns-in-Compare-clause-sums g c = rw c.in-Compare.is tt
+
+pub returns-in-Past-clause-sums : goal.returns-in-Past-clause-sums
+returns-in-Past-clause-sums g c = rw c.in-Past.is tt
+
+pub returns-in-Vehicle-clause-sums : goal.returns-in-Vehicle-clause-sums
+returns-in-Vehicle-clause-sums g c = rw c.in-Vehicle.is tt
+
+pub returns-in-Accidents-clause-sums : goal.returns-in-Accidents-clause-sums
+returns-in-Accidents-clause-sums g c = rw c.in-Accidents.is tt
+
+pub returns-in-Export-clause-sums : goal.returns-in-Export-clause-sums
+returns-in-Export-clause-sums g c = rw c.in-Export.is tt
+
+pub returns-in-Tariff-clause-sums : goal.returns-in-Tariff-clause-sums
+returns-in-Tariff-clause-sums g c = rw c.in-Tariff.is tt
+
+pub returns-in-Tariffs-clause-sums : goal.returns-in-Tariffs-clause-sums
+returns-in-Tariffs-clause-sums g c = rw c.in-Tariffs.is tt
+
+pub returns-in-Generate-clause-sums : goal.returns-in-Generate-clause-sums
+returns-in-Generate-clause-sums g c = rw c.in-Generate.is tt
+
+pub returns-in-Rehearse-clause-sums : goal.returns-in-Rehearse-clause-sums
+returns-in-Rehearse-clause-sums g c = rw c.in-Rehearse.is tt
+
+pub returns-in-Days-clause-sums : goal.returns-in-Days-clause-sums
+returns-in-Days-clause-sums g c = rw c.in-Days.is tt
+
+pub returns-in-Charges-clause-sums : goal.returns-in-Charges-clause-sums
+returns-in-Charges-clause-sums g c = rw c.in-Charges.is tt
+
+pub returns-in-Check-clause-sums : goal.returns-in-Check-clause-sums
+returns-in-Check-clause-sums g c = rw c.in-Check.is tt

@@ -11,7 +11,7 @@ pub returns-clause-wrote : goal.returns-clause-wrote
 returns-clause-wrote g c = λ o told.
     stated c.args.from o (g.O.Sink.written c.args.sink.now) (g.O.Sink.written c.vehicle_statement-done.new.sink)
     (vehicle_report c.args.vid c.args.from c.args.to o) c.vehicle_statement-done.result c.reported.result
-    c.reported.ensures.ends c.vehicle_statement-done.ensures.own (c.vehicle_statement-done.ensures.wrote o told)
+    c.reported.ensures.ends c.vehicle_statement-done.ensures.own.0 (c.vehicle_statement-done.ensures.wrote o told)
 
 pub returns-clause-keeps : goal.returns-clause-keeps
 returns-clause-keeps g c = λ o told.

@@ -1,28 +1,31 @@
-use Rattle.std.proofs.Common.{◌≡◌, ◌∙◌, ap, sym, arith}
-use Rattle.keep_office.specs.declared.kept.KeepFault.TheVariants.{Failed}
-use Rattle.keep_office.specs.Renewals.{renew_answer}
+use Rattle.std.proofs.Common.{◌∙◌, ap, sym, arith}
+use Rattle.office_ends.specs.Drops.{command_answer}
 use Rattle.office_ends.specs.Endings.{status_of}
-use Rattle.office_ends.proofs.EndingLaws.{does, some_line, is_fault, fault_six}
+use Rattle.office_ends.proofs.EndingLaws.{does, high, is_failing, is_fault}
 use Rattle.office_ends.proofs.entry.begin_anew.Goals as goal
 
 pub returns-clause-does : goal.returns-clause-does
 returns-clause-does g c = λ o told.
-    does g.K.Keeper.refuses (renew_answer c.args.base o) o (g.K.Keeper.told c.renew-done.new.keeper) c.renew-done.result
-    c.ended.result c.close.result (g.O.Sink.written c.args.sink.now) (g.O.Sink.written c.close.new.sink)
-    (c.renew-done.ensures.does o told) c.ended.ensures c.close.ensures.closes
+    does (command_answer c.args.named c.args.base o) (g.K.Keeper.told c.renewed-ending.new.keeper)
+    c.renewed-ending.result c.close.result (g.O.Sink.written c.args.sink.now) (g.O.Sink.written c.close.new.sink)
+    (c.renewed-ending.ensures.does o told) c.close.ensures.closes
 
 pub returns-clause-says : goal.returns-clause-says
-returns-clause-says g c = some_line _ _ _ _ c.close.ensures.closes
+returns-clause-says g c = (c.renewed-ending.result, c.close.ensures.closes)
 
 pub returns-clause-keeper : goal.returns-clause-keeper
 returns-clause-keeper g c =
-    let f = c.renew-done.ensures.keeper in
+    let f = c.renewed-ending.ensures.keeper in
     record {
       later = f.later;
-      cause = λ is. f.cause (is_fault c.renew-done.result c.ended.result c.ended.ensures
-          (sym (c.close.ensures.status (λ e. omega (arith, is, e)) (λ e. omega (arith, is, e))) ∙ is));
-      still = λ five six eight. f.still (λ bad. six (c.close.ensures.status five eight
-          ∙ ap status_of c.ended.ensures ∙ fault_six c.renew-done.result bad));
-      sure = λ never is. f.sure never (is_fault c.renew-done.result c.ended.result c.ended.ensures
-          (sym (c.close.ensures.status (λ e. omega (arith, is, e)) (λ e. omega (arith, is, e))) ∙ is));
+      cause = λ is. f.cause (is_fault c.renewed-ending.result
+          (sym (c.close.ensures.status (λ e. omega (arith, is, e))) ∙ is));
+      still = λ well quiet. f.still (λ bad. well (c.close.ensures.status quiet ∙ ap status_of bad));
+      sure = λ never is. f.sure never (is_fault c.renewed-ending.result
+          (sym (c.close.ensures.status (λ e. omega (arith, is, e))) ∙ is));
     }
+
+pub returns-clause-halts : goal.returns-clause-halts
+returns-clause-halts g c = λ o fault told is.
+    c.renewed-ending.ensures.halts o fault told (is_failing c.renewed-ending.result fault
+    (sym (c.close.ensures.status (λ five. omega (arith, high fault, is, five))) ∙ is))

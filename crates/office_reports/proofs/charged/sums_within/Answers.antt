@@ -1,4 +1,4 @@
-use Rattle.std.proofs.Common.{rules, ◌≡◌, ◌∙◌, ◌+◌, ◌<◌, Some, [], refl, sym, ap, subst, arith}
+use Rattle.std.proofs.Common.{◌≡◌, ◌∙◌, [], refl, sym, ap, subst, arith}
 use Rattle.std.specs.List.{fold}
 use Rattle.keep_office.specs.Office.{rows_between}
 use Rattle.office_reports.specs.Spans.{in_span}

@@ -1,4 +1,4 @@
-use Rattle.std.proofs.Common.{◌≡◌, ◌∙◌, ◌+◌, ◌<◌, ◌++◌, Some, [], refl, sym, ap, subst, arith}
+use Rattle.std.proofs.Common.{◌≡◌, ◌∙◌, ◌+◌, ◌<◌, ◌++◌, [], refl, sym, ap, subst, arith}
 use Rattle.std.specs.List.{cons_option}
 use Rattle.road_time.proofs.EachLaws.{weakened}
 use Rattle.keep_office.specs.Office.{record_of, last_from}

@@ -1,5 +1,4 @@
 use Rattle.std.proofs.Common.{◌≡◌, ◌≤◌, Some}
-use Rattle.std.specs.List.{AllByRecursion}
 use Rattle.road_io.specs.Plans.{NeverFails}
 use Rattle.keep_office.specs.Office.{Office, IsSound}
 use Rattle.office_reports.specs.Spans.{in_span}

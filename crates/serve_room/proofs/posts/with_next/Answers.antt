@@ -1,7 +1,7 @@
 use Rattle.std.proofs.Common.{◌≡◌, Some, slice_get, length, refl, sym, ap, ◌∙◌, subst, rules}
 use Rattle.std.proofs.lemmas.Option.{slice_get_read}
 use Rattle.road_time.proofs.EachLaws.{some_is, no_some}
-use Rattle.serve_room.specs.Posts.{may_leave, IsFirstBelow}
+use Rattle.serve_room.specs.Posts.{is_meant, IsFirstBelow}
 use Rattle.serve_room.proofs.PostLaws.{stays, stays_before, begins, overtakes}
 use Rattle.serve_room.proofs.posts.with_next.Goals as goal
 
@@ -9,7 +9,7 @@ pub returns-in_default : goal.returns-in_default
 returns-in_default c =
     let here : slice_get c.args.seats.now c.args.at ≡ Some c.index-seats-at.result =
     slice_get_read c.args.seats.now (length c.args.seats.now) c.args.at _ refl c.requires.at (search rules) in
-    stays c.args.forbidden c.args.seats.now c.args.at c.args.first c.requires.below
+    stays c.args.who c.args.seats.now c.args.at c.args.first c.requires.below
     (λ seat is. absurd (no_some seat (sym c.in_default.is ∙ some_is _ _ (sym here ∙ is))))
 
 pub returns-in_default-first : goal.returns-in_default-first
@@ -17,27 +17,27 @@ returns-in_default-first c =
     let seats = c.args.seats.now in
     let here : slice_get seats c.args.at ≡ Some c.index-seats-at.result =
     slice_get_read seats (length seats) c.args.at _ refl c.requires.at (search rules) in
-    begins c.args.forbidden seats c.args.at c.in-Some.seat
-    (subst (IsFirstBelow c.args.forbidden seats c.args.at) c.in_default-first.is c.requires.below)
-    (here ∙ ap Some c.in-Some.is) (sym c.may_leave.ensures ∙ c.if-may_leave.true)
+    begins c.args.who seats c.args.at c.in-Some.seat
+    (subst (IsFirstBelow c.args.who seats c.args.at) c.in_default-first.is c.requires.below)
+    (here ∙ ap Some c.in-Some.is) (sym c.is_meant.ensures ∙ c.if-is_meant.true)
 
 pub returns-then-is_not_after : goal.returns-then-is_not_after
 returns-then-is_not_after c =
     let seats = c.args.seats.now in
     let here : slice_get seats c.args.at ≡ Some c.index-seats-at.result =
     slice_get_read seats (length seats) c.args.at _ refl c.requires.at (search rules) in
-    stays_before c.args.forbidden seats c.args.at c.in-Some-first.before c.in-Some.seat
-    (subst (IsFirstBelow c.args.forbidden seats c.args.at) c.in-Some-first.is c.requires.below)
+    stays_before c.args.who seats c.args.at c.in-Some-first.before c.in-Some.seat
+    (subst (IsFirstBelow c.args.who seats c.args.at) c.in-Some-first.is c.requires.below)
     (here ∙ ap Some c.in-Some.is) (c.is_not_after.ensures.before c.if-is_not_after.true)
 
-pub returns-then-may_leave : goal.returns-then-may_leave
-returns-then-may_leave c =
+pub returns-then-is_meant : goal.returns-then-is_meant
+returns-then-is_meant c =
     let seats = c.args.seats.now in
     let here : slice_get seats c.args.at ≡ Some c.index-seats-at.result =
     slice_get_read seats (length seats) c.args.at _ refl c.requires.at (search rules) in
-    overtakes c.args.forbidden seats c.args.at c.in-Some-first.before c.in-Some.seat
-    (subst (IsFirstBelow c.args.forbidden seats c.args.at) c.in-Some-first.is c.requires.below)
-    (here ∙ ap Some c.in-Some.is) (sym c.may_leave.ensures ∙ c.if-may_leave.true)
+    overtakes c.args.who seats c.args.at c.in-Some-first.before c.in-Some.seat
+    (subst (IsFirstBelow c.args.who seats c.args.at) c.in-Some-first.is c.requires.below)
+    (here ∙ ap Some c.in-Some.is) (sym c.is_meant.ensures ∙ c.if-is_meant.true)
     (c.is_not_after.ensures.behind c.if-is_not_after.false)
 
 pub returns : goal.returns
@@ -45,7 +45,7 @@ returns c =
     let seats = c.args.seats.now in
     let here : slice_get seats c.args.at ≡ Some c.index-seats-at.result =
     slice_get_read seats (length seats) c.args.at _ refl c.requires.at (search rules) in
-    stays c.args.forbidden seats c.args.at c.args.first c.requires.below
-    (λ seat is. ap (may_leave c.args.forbidden)
+    stays c.args.who seats c.args.at c.args.first c.requires.below
+    (λ seat is. ap (is_meant c.args.who)
     (some_is _ _ (some_is _ _ (sym is ∙ here ∙ ap Some c.in-Some.is)))
-    ∙ sym c.may_leave.ensures ∙ c.if-may_leave.false)
+    ∙ sym c.is_meant.ensures ∙ c.if-is_meant.false)

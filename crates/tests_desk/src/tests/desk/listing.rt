@@ -230,7 +230,8 @@ fn ask_new<R: Wait + Threads + Drop + Copy>(
 
 /// How the answer that has the page begins.
 const PAGE_FRONT: &[u8] =
-    b"HTTP/1.1 200 OK\r\nContent-Length: 14439\r\nContent-Type: text/html; charset=utf-8\r\n\
+    b"HTTP/1.1 200 OK\r\nContent-Length: 16151\r\nContent-Type: text/html; charset=utf-8\r\n\
+        X-Frame-Options: DENY\r\nX-Content-Type-Options: nosniff\r\nCache-Control: no-store\r\n\
         Connection: close\r\n\r\n<!DOCTYPE html>\n<html lang='en'>\n<head>\n<meta charset='utf-8'>\n";
 
 /// The page is answered whole, with its type and its length.
@@ -241,7 +242,7 @@ fn the_page_is_answered(rt: HostRuntime) -> Result<(), NoMemory> {
     assert_eq!(rt; end, SessionEnd::Answered(200));
     assert!(rt; written.starts_with(PAGE_FRONT));
     assert!(rt; written.ends_with(b"watch();\n</script>\n</body>\n</html>\n"));
-    assert_eq!(rt; written.len(), 14439 + 101);
+    assert_eq!(rt; written.len(), 16151 + 182);
     Ok(())
 }
 

@@ -1,29 +1,21 @@
-use Rattle.std.proofs.Common.{string_bytes, subst}
-use Rattle.keep_files.specs.Asked.{IsReadyOf}
-use Rattle.keep_files.proofs.AskedLaws.{asked_unread, asked_whole, asked_by_trees}
+use Rattle.std.proofs.Common.{◌≡◌, inl}
 use Rattle.keep_files.proofs.database.Database.put.Goals as goal
 
--- of nothing
-pub returns-in-Err-clause-does : goal.returns-in-Err-clause-does
-returns-in-Err-clause-does g c =
-    asked_unread g.P.Pages g.S.Store g.S.Opens.gives g.S.Opens.refuses _ _ _ _ c.args.self.now.kept
-    (string_bytes c.args.self.now.path) _ _ _ c.in-Err.cause c.in-Err.ensures.unopened c.in-Err.ensures.none
-    c.in-Err.ensures.refused (c.say.ensures.fault, c.say.ensures.which)
+-- what was held is where it lay, and the put was told once its file was looked for again
+pub returns-in-Ok-clause-does : goal.returns-in-Ok-clause-does
+returns-in-Ok-clause-does g c =
+    let path : c.put_ready-answer.new.self.path ≡ c.args.self.now.path =
+    rw c.in-Ok.ensures.same at c.put_ready-answer.ensures.stays in
+    inl (
+      c.in-Ok.ensures.there,
+      record {
+        before = c.put_ready-answer.new.self.kept;
+        told = c.put_ready-answer.new.self.cause;
+        answer = c.put_ready-answer.result;
+        done = rw c.in-Ok.ensures.same at c.put_ready-answer.ensures.does;
+        then = rw c.confirmed.ensures.lies (rw path at c.confirmed.ensures.does);
+      },
+    )
 
--- of a keeper that is held, or of the whole file
-pub returns-in-Whole-clause-does : goal.returns-in-Whole-clause-does
-returns-in-Whole-clause-does g c =
-    asked_whole g.P.Pages g.S.Store g.S.Opens.gives g.S.Opens.refuses _ _ _ _ c.args.self.now.kept
-    (string_bytes c.args.self.now.path) _ _ _ c.in-Whole.kept
-    (subst (IsReadyOf g.S.Store g.S.Opens.gives g.P.Pages (string_bytes c.args.self.now.path) c.args.self.now.kept)
-    c.in-Whole.is c.in-Ok.ensures.ready)
-    c.put_whole.ensures.does
-
--- of the store of trees
-pub returns-in-Trees-clause-does : goal.returns-in-Trees-clause-does
-returns-in-Trees-clause-does g c =
-    asked_by_trees g.P.Pages g.S.Store g.S.Opens.gives g.S.Opens.refuses _ _ _ _ c.args.self.now.kept
-    (string_bytes c.args.self.now.path) _ _ _ c.in-Trees.trees
-    (subst (IsReadyOf g.S.Store g.S.Opens.gives g.P.Pages (string_bytes c.args.self.now.path) c.args.self.now.kept)
-    c.in-Trees.is c.in-Ok.ensures.ready)
-    (rw c.in-Ok.ensures.named at c.put_by_trees.ensures.does)
+pub returns-in-Ok-clause-tried : goal.returns-in-Ok-clause-tried
+returns-in-Ok-clause-tried g c = rw c.in-Ok.ensures.same at c.put_ready-answer.ensures.tried

@@ -1,80 +1,21 @@
-use Rattle.std.proofs.Common.{inl, inr, refl, string_bytes, subst, sym}
-use Rattle.keep_files.specs.Asked.{IsReadyOf}
-use Rattle.keep_files.specs.Openings.{FromStore, AsTrees, AsWhole}
-use Rattle.keep_files.specs.Origins.{IsFirst, OfFile, PutsNothing, of_store}
-use Rattle.keep_files.proofs.AnewLaws.{anew_by_trees, not_anew}
-use Rattle.keep_files.proofs.OriginLaws.{ready_trees_come, ready_whole_comes, taken_comes}
+use Rattle.std.proofs.Common.{◌≡◌, inl}
 use Rattle.keep_files.proofs.database.Database.put_anew.Goals as goal
 
--- nothing was opened
-pub returns-in-Err-clause-does : goal.returns-in-Err-clause-does
-returns-in-Err-clause-does g c =
-    not_anew g.P.Pages g.S.Store g.S.Opens.gives g.S.Opens.refuses g.S.Opens.foreign _
-    (string_bytes c.args.self.now.path) _ _ _
-    (OfFile g.S.Store g.S.Opens.gives PutsNothing (string_bytes c.args.self.now.path) c.args.self.now.kept)
-    c.in-Err.cause c.in-Err.ensures.none (inl (inl c.in-Err.ensures.refused))
-    (c.say.ensures.fault, c.say.ensures.which)
+-- what was held is where it lay, and the put was told once its file was looked for again
+pub returns-in-Ok-clause-does : goal.returns-in-Ok-clause-does
+returns-in-Ok-clause-does g c =
+    let path : c.put_anew_ready-answer.new.self.path ≡ c.args.self.now.path =
+    rw c.in-Ok.ensures.same at c.put_anew_ready-answer.ensures.stays in
+    inl (
+      c.in-Ok.ensures.there,
+      record {
+        before = c.put_anew_ready-answer.new.self.kept;
+        told = c.put_anew_ready-answer.new.self.cause;
+        answer = c.put_anew_ready-answer.result;
+        done = rw c.in-Ok.ensures.same at c.put_anew_ready-answer.ensures.does;
+        then = rw c.confirmed.ensures.lies (rw path at c.confirmed.ensures.does);
+      },
+    )
 
--- trees are there
-pub returns-in-Trees-clause-does : goal.returns-in-Trees-clause-does
-returns-in-Trees-clause-does g c =
-    anew_by_trees g.P.Pages g.S.Store g.S.Opens.gives g.S.Opens.refuses g.S.Opens.foreign _
-    (string_bytes c.args.self.now.path) c.args.self.now.kept _ _ _
-    c.in-Trees.trees
-    (ready_trees_come g.S.Store g.S.Opens.gives g.P.Pages (string_bytes c.args.self.now.path) c.args.self.now.kept
-    c.in-Trees.trees
-    (subst (IsReadyOf g.S.Store g.S.Opens.gives g.P.Pages (string_bytes c.args.self.now.path) c.args.self.now.kept)
-    c.in-Trees.is c.in-Ok.ensures.ready))
-    (rw c.in-Ok.ensures.named at c.put_anew_by.ensures.does)
-
--- the trees of the whole file are found
-pub returns-in-Some-clause-does : goal.returns-in-Some-clause-does
-returns-in-Some-clause-does g c =
-    anew_by_trees g.P.Pages g.S.Store g.S.Opens.gives g.S.Opens.refuses g.S.Opens.foreign _
-    (string_bytes c.args.self.now.path) c.args.self.now.kept _ _ _
-    c.in-Some.trees
-    (of_store c.into_store.result (AsTrees c.in-Some.trees)
-    (taken_comes g.S.Store g.S.Opens.gives PutsNothing
-    (IsFirst g.S.Opens.gives (string_bytes c.args.self.now.path) c.args.self.now.kept)
-    c.give_up.result c.into_store.result
-    (subst (λ conn. OfFile g.S.Store g.S.Opens.gives PutsNothing (string_bytes c.args.self.now.path)
-    c.args.self.now.kept (AsWhole conn))
-    (sym c.give_up.ensures)
-    (ready_whole_comes g.S.Store g.S.Opens.gives g.P.Pages (string_bytes c.args.self.now.path) c.args.self.now.kept
-    c.in-Whole.whole
-    (subst (IsReadyOf g.S.Store g.S.Opens.gives g.P.Pages (string_bytes c.args.self.now.path) c.args.self.now.kept)
-    c.in-Whole.is c.in-Ok.ensures.ready)))
-    c.into_store.ensures.undone c.into_store.ensures.quiet)
-    c.in-Some.ensures.opened)
-    (rw c.in-Ok.ensures.named at c.put_anew_by-in-Some.ensures.does)
-
--- they are not
-pub returns-in-None-clause-does : goal.returns-in-None-clause-does
-returns-in-None-clause-does g c =
-    not_anew g.P.Pages g.S.Store g.S.Opens.gives g.S.Opens.refuses g.S.Opens.foreign _
-    (string_bytes c.args.self.now.path) _ _ _
-    (OfFile g.S.Store g.S.Opens.gives PutsNothing (string_bytes c.args.self.now.path) c.args.self.now.kept)
-    _ c.in-Ok.ensures.none
-    (inr (
-      refl,
-      (
-        FromStore c.into_store.result,
-        (
-          (taken_comes g.S.Store g.S.Opens.gives PutsNothing
-              (IsFirst g.S.Opens.gives (string_bytes c.args.self.now.path) c.args.self.now.kept)
-              c.give_up.result c.into_store.result
-              (subst (λ conn. OfFile g.S.Store g.S.Opens.gives PutsNothing
-              (string_bytes c.args.self.now.path) c.args.self.now.kept (AsWhole conn))
-              (sym c.give_up.ensures)
-              (ready_whole_comes g.S.Store g.S.Opens.gives g.P.Pages (string_bytes c.args.self.now.path)
-              c.args.self.now.kept
-              c.in-Whole.whole
-              (subst (IsReadyOf g.S.Store g.S.Opens.gives g.P.Pages (string_bytes c.args.self.now.path)
-              c.args.self.now.kept)
-              c.in-Whole.is c.in-Ok.ensures.ready)))
-              c.into_store.ensures.undone c.into_store.ensures.quiet),
-          c.in-None.ensures.lost refl,
-        ),
-      ),
-    ))
-    (c.say-in-None.ensures.fault, c.say-in-None.ensures.which)
+pub returns-in-Ok-clause-tried : goal.returns-in-Ok-clause-tried
+returns-in-Ok-clause-tried g c = rw c.in-Ok.ensures.same at c.put_anew_ready-answer.ensures.tried

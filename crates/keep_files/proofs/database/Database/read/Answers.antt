@@ -1,35 +1,10 @@
-use Rattle.std.proofs.Common.{inl, inr, subst}
-use Rattle.keep_files.specs.Asked.{IsReadyToRead}
+use Rattle.std.proofs.Common.{inl}
 use Rattle.keep_files.proofs.database.Database.read.Goals as goal
 
--- a call of a whole file
-pub returns-in-Whole-clause-does : goal.returns-in-Whole-clause-does
-returns-in-Whole-clause-does g c =
-    inr
-    (inl
-    (record {
-      before = c.in-Whole.kept;
-      after = c.ask-answer.new.kept;
-      ready =
-          subst (IsReadyToRead _ _ c.args.self.now.kept)
-          c.in-Whole.is c.in-Ok.ensures.ready;
-      does = c.ask-answer.ensures.does;
-      shown = c.ask-answer.ensures.shows;
-      kept = c.unless_failed.ensures.held;
-      says = c.unless_failed.ensures.says;
-    }))
+-- what was held is where it lay, and the call was made
+pub returns-in-Ok-clause-does : goal.returns-in-Ok-clause-does
+returns-in-Ok-clause-does g c =
+    inl (c.in-Ok.ensures.there, rw c.in-Ok.ensures.same at c.read_ready.ensures.does)
 
--- a call of trees
-pub returns-clause-does : goal.returns-clause-does
-returns-clause-does g c =
-    inl
-    (record {
-      before = c.in-Trees.trees;
-      after = c.look-answer.new.trees;
-      ready =
-          subst (IsReadyToRead _ _ c.args.self.now.kept)
-          c.in-Trees.is c.in-Ok.ensures.ready;
-      looks = c.look-answer.ensures.looks;
-      kept = c.unless_failed-2.ensures.held;
-      says = c.unless_failed-2.ensures.says;
-    })
+pub returns-in-Ok-clause-tried : goal.returns-in-Ok-clause-tried
+returns-in-Ok-clause-tried g c = rw c.in-Ok.ensures.same at c.read_ready.ensures.tried

@@ -18,17 +18,17 @@ returns-in-Some-clause-ready g c =
 pub returns-clause-tried : goal.returns-clause-tried
 returns-clause-tried g c =
     subst (TriesPath g.S.Store g.S.Opens.gives g.S.Opens.refuses (string_bytes c.args.self.now.path))
-    (sym (sym c.take.ensures.value ∙ c.in_default.is)) c.opened.ensures.tried
+    (sym (sym c.take.ensures.value ∙ c.in_default.is)) c.opened_there.ensures.tried
 
 pub returns-clause-ready : goal.returns-clause-ready
 returns-clause-ready g c =
-    subst (λ old. IfOk c.opened.result (IsReadyOf g.S.Store g.S.Opens.gives g.P.Pages
+    subst (λ old. IfOk c.opened_there.result (IsReadyOf g.S.Store g.S.Opens.gives g.P.Pages
     (string_bytes c.args.self.now.path) old))
-    (sym (sym c.take.ensures.value ∙ c.in_default.is)) c.opened.ensures.ready
+    (sym (sym c.take.ensures.value ∙ c.in_default.is)) c.opened_there.ensures.ready
 
 pub returns-clause-refused : goal.returns-clause-refused
 returns-clause-refused g c =
     subst
-    (λ old. IfErr c.opened.result (IsUnreadOf g.S.Store g.S.Opens.gives g.S.Opens.refuses
+    (λ old. IfErr c.opened_there.result (IsUnreadOf g.S.Store g.S.Opens.gives g.S.Opens.refuses
     (string_bytes c.args.self.now.path) old))
-    (sym (sym c.take.ensures.value ∙ c.in_default.is)) c.opened.ensures.refused
+    (sym (sym c.take.ensures.value ∙ c.in_default.is)) c.opened_there.ensures.refused
