@@ -257,6 +257,7 @@ def not_closed(program):
         make(kept, OURS)
         script = ("import os, sqlite3, sys\ndb = sqlite3.connect(sys.argv[1])\ndb.execute('PRAGMA journal_mode = WAL')\n"
                   "db.executemany('INSERT INTO spent VALUES (100, ?, 0, 1)', ((n,) for n in range(4000)))\n"
+                  "db.execute('UPDATE days SET total = 4000')\n"
                   "db.commit()\nos._exit(0)\n")
         subprocess.run([sys.executable, "-c", script, kept], check=True)
         with contextlib.suppress(FileNotFoundError):
