@@ -246,7 +246,7 @@ fn a_post_whose_turn_is_over_holds_no_other(rt: HostRuntime) -> io::Result<()> {
     let address = holder.local_addr()?;
     drop(holder);
     let mut door = TcpDoor::new(rt, rt);
-    let Ok(ears) = door.open(alloc, address.port(), 3) else {
+    let Ok(ears) = door.open(alloc, address.port(), 4) else {
         return Err(io::Error::from(io::ErrorKind::AddrInUse));
     };
     let mut ears = ears.into_vec();
