@@ -6,7 +6,7 @@
     .ci/run --documents    the checks alone, which need no program
     .ci/run --trials       the trials alone
 
-`rt ci` works on as many crates at a time as there are processors, if there are 5.5 GB of free memory for each; RT_JOBS sets
+`rt ci` works on as many crates at a time as there are processors, if there are 7 GB of free memory for each; RT_JOBS sets
 another number. A check says how long it took; one that fails shows what it printed, and fails the gate. A trial whose tools are
 not on this machine is passed over, and said so. Behind `rt ci` stand lines `figure CRATE WHAT SECONDS MB`, the processor time and
 the memory of each crate, of which tools/figures.py makes a table. The last line is `N passed, M failed`, of all together.
@@ -25,7 +25,7 @@ import time
 from build import at_a_time
 from write_docs import TOP
 
-A_JOB = 5.5
+A_JOB = 7.0
 LIMIT = 600
 OFFICE, SERVE = "crates/toll_office/out/toll_office", "crates/toll_serve/out/toll_serve"
 CHECKS = ["tools/write_docs.py --check", "tools/pictures.py --check", "tools/check_docs.py", "tools/check_words.py",
