@@ -80,23 +80,25 @@ fn each_of_kept<R: Abort + Threads + Sync>(
     each_writes(rt, alloc, &mut keeper, steps)
 }
 
-/// Each call of a list fails, and no other.
+/// Each call of a list fails, and no other: from the eleventh of the keeper to the one before `behind`.
 fn fails_at_each<R: Abort + Threads + Sync>(
     rt: &R,
     alloc: Global,
     list: Step<'_>,
+    behind: u32,
 ) -> Result<(), Fail> {
     let fault = Step {
         words: list.words,
         ..FAULT
     };
-    for number in 11..16u32 {
+    for number in 11..behind {
         each_of_kept(rt, alloc, &[number], &[fault, list])?;
     }
-    each_of_kept(rt, alloc, &[16], &[list, fault])
+    each_of_kept(rt, alloc, &[behind], &[list, fault])
 }
 
-/// A keeper that fails at each of the five calls of either list.
+/// A keeper that fails at each call of either list: five of the days, and of the charges of four days the last day, and
+/// of each day its record and its amounts.
 #[test]
 fn each_call_of_a_list_fails(rt: HostRuntime) -> Result<(), Fail> {
     let charges = Step {
@@ -104,8 +106,8 @@ fn each_call_of_a_list_fails(rt: HostRuntime) -> Result<(), Fail> {
         text: "vid,xway,tolls\n7,0,5\n9,3,4\n100,0,2\n",
         ..STEP
     };
-    fails_at_each(&rt, rt.alloc(), TWO_DAYS)?;
-    fails_at_each(&rt, rt.alloc(), charges)
+    fails_at_each(&rt, rt.alloc(), TWO_DAYS, 16)?;
+    fails_at_each(&rt, rt.alloc(), charges, 20)
 }
 
 /// A list into each room that is too small: what fits is written, with status 5.
