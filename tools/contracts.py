@@ -8,7 +8,8 @@
 The sentences stand in crates/NAME/contracts.txt, in blocks of four lines: `call:` has the calls and `clause:` the clauses that
 carry it, in backticks, `says:` the sentence and `if:` its premise. Where call and clause have as many parts between semicolons,
 the parts belong together. A call is `name`, `Type::name` or `module::name`, of another crate `crate::name`; what stands in
-brackets behind a clause are definitions, `File.word`, and fields of them. A line `note:` is shown at the page's head.
+brackets behind a clause are definitions, `File.word`, and fields of them. A line `note:` is shown at the page's head, and a line
+`why:`, the reason of something in the code, behind the notes.
 
 A check fails where a call, clause or definition that is named is not in the code, where a clause of a public call has no
 sentence and its crate has more of them than OPEN says, and where it has fewer, so that the number falls with them. A clause of
@@ -124,12 +125,14 @@ def page(name, rows):
     inner = [it for it in of.calls if id(it) not in shown and any(it is call for row in mine for _, call in row.calls)]
     named_too = [call for row in mine for _, call in row.calls]
     things = [it for it in of.things.values() if it.name in of.shown and it.clauses or any(it is call for call in named_too)]
-    notes = texts(name)[1]
+    _, notes, reasons = texts(name)
     lines = [f"# The contracts of `{name}`", "",
              "Written by `tools/contracts.py` from the code and from `contracts.txt`. Each clause is proved. A link leads to the line",
              "of a clause; the definitions that the clauses use are listed at the end.", ""]
     if notes:
         lines += ["## In general", ""] + [it for note in notes for it in (note, "")]
+    if reasons:
+        lines += ["## Reasons", ""] + [f"- {it}" for it in reasons] + [""]
     first = {}
     groups = {it: [] for it in PARTS}
     for call in public:

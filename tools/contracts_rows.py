@@ -47,14 +47,16 @@ def ticked(text):
 
 @functools.cache
 def texts(name):
-    """The rows of a crate's file, and its notes."""
+    """The rows of a crate's file, its notes, and the reasons behind its code."""
     path = TOP / "crates" / name / "contracts.txt"
-    rows, notes, row = [], [], None
+    rows, notes, reasons, row = [], [], [], None
     if path.exists():
         for at, line in enumerate(path.read_text().splitlines(), 1):
             head, _, rest = line.partition(": ")
             if head == "note":
                 notes.append(rest)
+            elif head == "why":
+                reasons.append(rest)
             elif head == "call":
                 row = Row(name, at, call=rest)
                 rows.append(row)
@@ -62,7 +64,7 @@ def texts(name):
                 setattr(row, head, rest)
             elif head == "if":
                 row.when = rest
-    return rows, notes
+    return rows, notes, reasons
 
 
 def meant(name, token):
