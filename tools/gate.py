@@ -30,7 +30,7 @@ A_JOB = 7.0
 LIMIT = 600
 OFFICE, SERVE = "crates/toll_office/out/toll_office", "crates/toll_serve/out/toll_serve"
 CHECKS = ["tools/write_docs.py --check", "tools/pictures.py --check", "tools/check_docs.py", "tools/check_words.py",
-          "tools/check_rows.py", "tools/check_traffic.py", "tools/check_clauses.py", "tools/check_heads.py",
+          "tools/check_rows.py", "tools/check_traffic.py", "tools/contracts.py --check", "tools/check_heads.py",
           "tools/edits.py --stand", "trials/try_completion.py"]
 # each with the tools that it needs
 TRIALS = [(f"trials/try_commands.py {OFFICE}", ["cc"]), (f"trials/try_docs.py {OFFICE} {SERVE}", ["curl"]),
