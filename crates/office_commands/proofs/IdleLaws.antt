@@ -1,5 +1,5 @@
 -- What a run did whose words could not be read, or for whose words there was no memory: nothing but its closing line.
-use Rattle.std.proofs.Common.{◌≡◌, ◌≢◌, ◌∙◌, inl, ℕ, Bool, List, [], Option, Some, None, Ok, refl, sym, ap, arith, rules}
+use Rattle.std.proofs.Common.{◌≡◌, ◌≢◌, ◌∙◌, inl, ℕ, Bool, [], Option, Some, None, Ok, refl, sym, ap, arith, rules}
 use Rattle.road_time.specs.declared.day.Limits.{Limits}
 use Rattle.road_io.proofs.SinkLaws.{appends_none}
 use Rattle.road_io.specs.declared.sink.Sink.{Ghosts as SinkGhosts}

@@ -1,5 +1,5 @@
 -- What a run promises of each object, from what its command did before the closing line and from that line.
-use Rattle.std.proofs.Common.{◌≡◌, ◌≢◌, ◌∙◌, ℕ, Bool, List, Option, Some, Result, Ok, refl, sym, ap, arith, rules}
+use Rattle.std.proofs.Common.{◌≡◌, ◌≢◌, ◌∙◌, ℕ, Bool, List, Option, Some, Result, Ok, refl, sym, ap, arith}
 use Rattle.road_time.specs.declared.day.Limits.{Limits}
 use Rattle.road_io.specs.Blame.{FaultsByRoom}
 use Rattle.road_io.specs.declared.source.Failed.{Failed}
