@@ -1,5 +1,5 @@
 #!/usr/bin/env python3
-"""Compares the words of the documents with the grammar: the manual pages, the completion for bash, README and FORMATS.
+"""Compares the words of the documents with the grammar: the manual pages, the completion of each shell, README and FORMATS.
 
     python3 tools/check_words.py
 
@@ -61,6 +61,15 @@ def completed(*words):
     return ran.stdout.split()
 
 
+def offered(page):
+    """What the completion of another shell offers as a command, behind each command, and to the server: by its text."""
+    said = text(page)
+    rows = re.findall(r'^ +([\w |]+)\) options="(.*)" ;;|^ +case ([\w ]+)\n +set words (.*)', said, re.M)
+    behind = {it: (more or other).split() for names, more, others, other in rows for it in re.findall(r"\w+", names or others)}
+    first = re.search(r'(?:CURRENT == 2 \)\); then\n +options="|-eq 1\n +set words )([\w ]+)', said)[1].split()
+    return first, behind, re.findall(r"--\w+", re.search(r"toll_serve(?: \]\];|' \$given\[1\]).*\n.*", said)[0])
+
+
 def plain(page):
     """A manual page without its marks."""
     return re.sub(r"\\f.", "", text(page)).replace("\\-", "-")
@@ -102,6 +111,12 @@ def main():
                 wrong.append(f"{where}: no --{name}")
     options = [f"--{it}" for it in server()]
     same("completion: toll_serve", completed("toll_serve", ""), options)
+    for shell in ("docs/toll_office.zsh", "docs/toll_office.fish"):
+        first, behind, serving = offered(shell)
+        same(f"{shell}: commands", first, forms)
+        same(f"{shell}: toll_serve", serving, options)
+        for name, (_, own) in forms.items():
+            same(f"{shell}: {name}", behind.get(name, []), [f"--{it}" for it in own])
     same("toll_serve.1", set(re.findall(r"--\w+", plain("docs/toll_serve.1"))), options)
     same("HTTP.md", set(re.findall(r"`(--\w+)`", text("docs/HTTP.md"))), options)
     if shutil.which("groff"):

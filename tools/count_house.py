@@ -19,7 +19,7 @@ import re
 # several with a bar between them the first that is there.
 WALK = """
 main@toll_office beside@crews run_and_stop@ run_office@ run_words@toll_office
-answered@answering explained@explaining office@entry read_words@words perform@performing import@importing import_new@importing
+answered@answering office@entry read_words@words perform@performing import@importing import_new@importing
 import_later@importing import_begun@ import_under@ run_day@ begin@begun Floor::new begin@begun run_day@ run_opened@ run_plan@ run_rounds@ next_round@ round@rounds
 work_round@ read_on@reading gather@reading next@day_ahead next@day_reader advance@cutter WatchedSource::read read@source WatchedSource::read advance@cutter next@day_reader
 add@consumed add@beside_digester add@beside_digester take@intake read_line@ admit@gatekeeper Sorter::put take@sorter

@@ -1,5 +1,5 @@
 -- A check that could not read.
-use Rattle.std.proofs.Common.{◌≡◌, ◌⊎◌, inl, inr, ℕ, List, [], Option, Some, Ok, arith}
+use Rattle.std.proofs.Common.{inl, inr, ℕ, List, [], Option, Some, Ok, arith}
 use Rattle.road_io.proofs.SinkLaws.{appends_none}
 use Rattle.day_reading.specs.declared.whole.CheckStop.{CheckStop}
 use Rattle.day_reading.specs.declared.whole.CheckStop.TheVariants as checks

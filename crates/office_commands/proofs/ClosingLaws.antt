@@ -5,7 +5,6 @@ use Rattle.std.proofs.lemmas.List.{take_all, take-take, length-take}
 use Rattle.std.proofs.lemmas.Option.{none-some}
 use Rattle.std.specs.Io.KnownBytes.{Appends}
 use Rattle.road_io.proofs.SinkLaws.{appends_none}
-use Rattle.road_io.specs.declared.source.Failed.{Failed}
 use Rattle.keep_office.specs.declared.kept.KeepFault.{KeepFault}
 use Rattle.day_reading.specs.declared.whole_day.ReadStop.{ReadStop}
 use Rattle.office_commands.specs.declared.closing.Closing.{Closing}

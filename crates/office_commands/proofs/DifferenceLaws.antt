@@ -3,7 +3,7 @@ use Rattle.std.proofs.Common.{◌≡◌, ◌∙◌, ℕ, zero, suc, ◌+◌, ◌
 use Rattle.std.proofs.Common.{length, take, slice_index_or, refl, sym, ap, arith}
 use Rattle.std.proofs.lemmas.Bool.{cond-true, cond-false, le-leb, lt-leb}
 use Rattle.road_time.specs.declared.road.Notice.{Notice}
-use Rattle.office_commands.specs.declared.entry_text.EntryText.TheVariants.{Nothing, Read}
+use Rattle.office_commands.specs.declared.entry_text.EntryText.TheVariants.{Read}
 use Rattle.office_commands.specs.declared.closing.Closing.{Closing}
 use Rattle.office_commands.specs.declared.closing.Closing.TheVariants.{Agree, DiffersLine}
 use Rattle.office_commands.specs.declared.difference.Difference.{Difference}

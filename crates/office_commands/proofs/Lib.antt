@@ -27,3 +27,5 @@ pub mod LimitLaws
 pub mod RunLaws
 pub mod CheckLaws
 pub mod SumLaws
+pub mod RanLaws
+pub mod IdleLaws

@@ -1,5 +1,5 @@
 -- One step of a list of differences.
-use Rattle.std.proofs.Common.{◌≡◌, ◌∙◌, ℕ, ◌+◌, ◌<◌, ◌≤◌, ◌&&◌, ◌||◌, true, false, List, [], ◌∷◌, ◌++◌, length, drop}
+use Rattle.std.proofs.Common.{◌≡◌, ◌∙◌, ℕ, ◌+◌, ◌<◌, ◌≤◌, ◌&&◌, ◌||◌, true, false, List, [], ◌∷◌, ◌++◌, length}
 use Rattle.std.proofs.Common.{Option, Some, None, Result, IfOk, refl, sym, ap, subst, append_assoc, arith}
 use Rattle.std.specs.Str.{bytes_eq}
 use Rattle.std.proofs.lemmas.Bool.{cond-true, cond-false}
@@ -16,7 +16,6 @@ use Rattle.office_commands.specs.declared.entry_text.EntryText.TheVariants.{Noth
 use Rattle.office_commands.specs.declared.difference.Difference.{Difference}
 use Rattle.office_commands.specs.declared.difference.DifferenceKind.TheVariants.{Changed, Missing, Additional}
 use Rattle.office_commands.specs.declared.listing.Step.{Step}
-use Rattle.office_commands.specs.declared.listing.Step.TheVariants.{Passed, Stayed, Ended}
 use Rattle.office_commands.specs.Asides.{is_short, is_text_of, entry_of, found_as}
 use Rattle.office_commands.specs.Entries.{Enters, entered, HasReadEntries}
 use Rattle.office_commands.specs.Differences.{is_before, is_missing, is_additional, is_in_first, differs_at}

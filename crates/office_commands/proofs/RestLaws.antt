@@ -32,7 +32,6 @@ use Rattle.office_commands.proofs.OutcomeLaws.{code_is, neither}
 use Rattle.keep_office.specs.declared.kept.KeepFault.TheVariants as keeping
 use Rattle.day_reading.specs.declared.whole_day.DayEnd.TheVariants as day_end
 use Rattle.day_reading.specs.declared.whole_day.ReadStop.TheVariants as stops
-use Rattle.office_words.specs.declared.command.Command.TheVariants as command
 use Rattle.office_commands.specs.declared.closing.Closing.TheVariants as closing
 
 module _ (refused : Option (ℕ × Fault)) (bytes : List ℕ) (left : Option (List ℕ)) where

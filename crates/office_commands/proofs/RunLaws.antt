@@ -1,7 +1,6 @@
 -- The run of a day under limits that differ by their backlog alone.
-use Rattle.std.proofs.Common.{◌≡◌, ◌+◌, ◌*◌, ℕ, List, Option, Some, None, refl, ap, subst}
+use Rattle.std.proofs.Common.{◌≡◌, ◌+◌, ◌*◌, ℕ, List, Option, Some, None, ap, subst}
 use Rattle.road_time.specs.declared.day.Limits.{Limits}
-use Rattle.road_time.specs.declared.road.Tuple.{Tuple}
 use Rattle.road_time.specs.Reads.{LinesRead, reads}
 use Rattle.road_io.specs.Within.{ReadsWithin}
 use Rattle.ways_crews.specs.Told.{CrewTold}

@@ -1,6 +1,6 @@
 -- A second of a comparison in which its notices may stand in any order.
-use Rattle.std.proofs.Common.{◌≡◌, ◌∙◌, ℕ, ◌+◌, ◌-◌, ◌<◌, ◌≤◌, Bool, true, false, nat_lt, List, [], ◌∷◌, ◌++◌, length}
-use Rattle.std.proofs.Common.{take, drop, get_or, Option, refl, sym, ap, subst, append_assoc, arith}
+use Rattle.std.proofs.Common.{◌≡◌, ◌∙◌, ℕ, ◌+◌, ◌<◌, ◌≤◌, true, false, nat_lt, List, [], ◌∷◌, ◌++◌, length}
+use Rattle.std.proofs.Common.{take, drop, get_or, Option, sym, ap, append_assoc, arith}
 use Rattle.std.proofs.lemmas.Bool.{cond-true, cond-false}
 use Rattle.std.proofs.lemmas.List.{at_drop_more, drop_all, take_all, take-append-le}
 use Rattle.road_time.specs.declared.road.Notice.{Notice}
@@ -15,7 +15,7 @@ use Rattle.office_commands.specs.declared.second.Reach.TheVariants as reach
 use Rattle.office_commands.specs.Differences.{differs_at}
 use Rattle.office_commands.specs.AnyOrder.{missing_at, differences_by_second}
 use Rattle.office_commands.specs.Listings.{StandsAt}
-use Rattle.office_commands.specs.Turns.{Onward, LeavesSecond, ListsBehind, ListsSecond, ListsSeconds, ReachTo, ToldTo}
+use Rattle.office_commands.specs.Turns.{Onward, ListsBehind, ListsSeconds, ReachTo, ToldTo}
 
 -- a list that is full is the first so many of all
 pub full_taken : (most : ℕ) (all listed rest : List Difference) → all ≡ listed ++ rest → length listed ≡ most →

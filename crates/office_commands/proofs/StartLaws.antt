@@ -1,5 +1,5 @@
 -- The jobs that a command starts, from those that its parts started.
-use Rattle.std.proofs.Common.{◌≡◌, ◌≢◌, ◌⊎◌, inl, inr, ℕ, List, [], Option, Some, None, Result, Ok, Err, OnOk, OnErr}
+use Rattle.std.proofs.Common.{◌≡◌, ◌≢◌, inl, inr, ℕ, List, [], Option, Some, None, Result, Ok, Err, OnOk, OnErr}
 use Rattle.std.proofs.Common.{IsOk, refl, sym, subst, ◌∙◌, arith, append-nil}
 use Rattle.road_time.specs.declared.day.Limits.{Limits}
 use Rattle.road_time.specs.declared.day.TheConstants.Limits.{DAY}
@@ -9,15 +9,14 @@ use Rattle.road_time.specs.Reads.{reads}
 use Rattle.road_io.specs.declared.source.Failed.{Failed}
 use Rattle.ways_crews.specs.Told.{CrewTold, WhereTold}
 use Rattle.ways_crews.specs.Callers.{ListsFirst}
-use Rattle.keep_office.specs.declared.kept.DayRecord.{DayRecord}
 use Rattle.keep_office.specs.declared.kept.KeepFault.{KeepFault}
 use Rattle.keep_office.specs.Calls.{WhenRefused}
 use Rattle.keep_office.specs.Office.{Office, record_of}
 use Rattle.day_reading.specs.declared.whole_day.ReadStop.{ReadStop}
 use Rattle.day_import.specs.Imports.{Work, import_worked, unless_recorded, Merges, IsOfAnswers}
 use Rattle.day_import.specs.declared.outcomes.Outcome.{Outcome}
-use Rattle.day_import.specs.declared.outcomes.Outcome.TheVariants.{Stored, Already, Answered, Refused, DayPassed}
-use Rattle.day_import.specs.declared.outcomes.Outcome.TheVariants.{Differs, ReadFault, WriteFault, KeeperFault}
+use Rattle.day_import.specs.declared.outcomes.Outcome.TheVariants.{Stored, Already, Answered, Refused}
+use Rattle.day_import.specs.declared.outcomes.Outcome.TheVariants.{WriteFault}
 use Rattle.day_import.specs.declared.outcomes.Outcome.TheVariants.{NoMemory}
 use Rattle.day_import.specs.Runs.{HasStartedJobs}
 use Rattle.ways_audit.specs.Jobs.{StartsAll, StartsFirst, starts_of}

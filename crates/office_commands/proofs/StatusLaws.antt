@@ -17,7 +17,7 @@ use Rattle.office_words.specs.declared.command.Command.TheVariants as command
 
 -- what holds by the status that a run is to end with holds by the one that it ends with, unless its sink failed or
 -- memory ran out
-abbrev Ended : ℕ → ℕ → Type 0
+abbrev pub Ended : ℕ → ℕ → Type 0
 Ended status code = status ≢ 5 → status ≢ 8 → status ≡ code
 
 -- so what a status says of a reading

@@ -1,6 +1,6 @@
 -- One turn of a comparison in which the notices of one second may stand in any order.
-use Rattle.std.proofs.Common.{◌≡◌, ◌∙◌, ℕ, zero, suc, ◌+◌, ◌-◌, ◌<◌, ◌≤◌, Bool, true, false, List, [], ◌∷◌, ◌++◌}
-use Rattle.std.proofs.Common.{length, Option, Some, refl, sym, ap, subst, append_assoc, arith}
+use Rattle.std.proofs.Common.{◌≡◌, ◌∙◌, ℕ, zero, suc, ◌+◌, ◌-◌, ◌<◌, ◌≤◌, true, false, List, [], ◌∷◌, ◌++◌}
+use Rattle.std.proofs.Common.{length, Option, Some, refl, sym, ap, append_assoc, arith}
 use Rattle.std.proofs.lemmas.Bool.{cond-true, cond-false}
 use Rattle.road_time.specs.declared.road.Notice.{Notice}
 use Rattle.office_commands.specs.declared.aside.AsideEntry.{AsideEntry}
@@ -14,8 +14,8 @@ use Rattle.office_commands.specs.Entries.{entered}
 use Rattle.office_commands.specs.Differences.{differs_at}
 use Rattle.office_commands.specs.AnyOrder.{is_later, is_wanted, without_found, missing_at, differences_within}
 use Rattle.office_commands.specs.Listings.{StandsAt}
-use Rattle.office_commands.specs.Turns.{Onward, found_at, ListsSecond, LeavesSecond, ListsBehind}
-use Rattle.office_commands.proofs.AsideLaws.{short, long}
+use Rattle.office_commands.specs.Turns.{Onward, ListsSecond, LeavesSecond}
+use Rattle.office_commands.proofs.AsideLaws.{long}
 use Rattle.office_commands.proofs.ListingLaws.{named_long}
 
 -- what has no name is of no later second

@@ -1,6 +1,6 @@
 -- The lines at which notices that are compared part from those of the rules, where the notices of one second may stand
 -- in any order.
-use Rattle.std.specs.Prelude.{ℕ, zero, suc, ◌+◌, nat_lt, nat_le, Bool, true, false, List, [], ◌∷◌, ◌++◌, length}
+use Rattle.std.specs.Prelude.{ℕ, zero, suc, ◌+◌, nat_lt, Bool, true, false, List, [], ◌∷◌, ◌++◌, length}
 use Rattle.std.specs.Prelude.{if◌then◌else◌}
 use Rattle.road_time.specs.declared.road.Notice.{Notice}
 use Rattle.ways_audit.specs.Seconds.{seconds, count_in, less}

@@ -1,9 +1,11 @@
 -- What a run of the office promises of each object that it was given: the same whoever called it.
 use Rattle.std.specs.Prelude.{ℕ, ◌≡◌, ◌≢◌, ◌↔◌, Bool, true, false, List, [], Option, Some, None}
-use Rattle.road_io.specs.Blame.{FaultsByRoom}
+use Rattle.std.specs.Prelude.{Result, Ok, IsErr}
+use Rattle.road_io.specs.Blame.{FaultsByPlan, FaultsByRoom}
 use Rattle.road_io.specs.Plans.{NeverFails}
 use Rattle.road_io.specs.Within.{ReadsWithin}
 use Rattle.road_io.specs.declared.sink.Sink.{Ghosts as SinkGhosts}
+use Rattle.road_io.specs.declared.source.Failed.{Failed}
 use Rattle.road_io.specs.declared.source.Source.{Ghosts as SourceGhosts}
 use Rattle.road_time.specs.declared.day.Limits.{Limits}
 use Rattle.keep_office.specs.Office.{Office}
@@ -11,12 +13,14 @@ use Rattle.keep_office.specs.declared.calls.Keeper.{Ghosts as KeeperGhosts}
 use Rattle.ways_crews.specs.declared.crew.Crew.{Ghosts as CrewGhosts}
 use Rattle.day_import.specs.Faults.{FaultsBeside}
 use Rattle.office_words.specs.declared.command.Command.{Command}
+use Rattle.office_commands.specs.declared.closing.Closing.{Closing}
+use Rattle.office_commands.specs.declared.closing.Closing.TheVariants.{KeeperFault}
 use Rattle.office_commands.specs.Commands.{office_answer}
-use Rattle.office_commands.specs.Endings.{KeepsTo, Writes, Concludes, HoldsSame}
+use Rattle.office_commands.specs.Endings.{KeepsTo, Writes, Concludes, HoldsSame, Keeps, Wrote, Did, code_of}
 use Rattle.office_commands.specs.Faults.{ReadFaults}
 use Rattle.office_commands.specs.Rests.{LeavesAsKept, ReadsAsked}
 use Rattle.office_commands.specs.Starts.{StartsAsked}
-use Rattle.office_commands.specs.Sums.{TellsSound}
+use Rattle.office_commands.specs.Sums.{TellsSound, WroteSound}
 use Rattle.office_commands.specs.Uses.{IsTold, IsRightCrew, IsRightAside, SourceTells, KeeperTells}
 use Rattle.office_commands.specs.Uses.{uses_crew, uses_source, uses_aside, uses_keeper, changes_kept, AsksPassed}
 use Rattle.office_commands.specs.Uses.{PutsAsked, most_of, most_aside_of}
@@ -77,6 +81,32 @@ pub record WritesAsked {S A O K : Type 0} (s : SourceGhosts S) (a : SourceGhosts
       (k.told kept)
   pub sums : TellsSound meant status (g.written old) (g.written new)
   pub faults : FaultsByRoom (g.faults old) (g.faults new) (g.room old) (g.room new) (status ≡ 5)
+
+-- a keeper before the closing line: what it keeps then, by how the command ended
+pub record KeptAsked {S K : Type 0} (s : SourceGhosts S) (g : KeeperGhosts K) (limits : Limits)
+    (meant : Option Command) (exact : Bool) (done : Result (Option Closing) Failed) (source : S) (old new : K) :
+    Type 0 where
+  pub keeps : (bytes lines : List ℕ) (o : Office) → IsRightCrew meant exact → SourceTells meant (s.left source) bytes →
+      g.told old ≡ Some o → Keeps g.refuses (office_answer limits bytes lines o meant) o (g.told new) done
+  pub puts : (o : Office) → g.told old ≡ Some o → PutsAsked meant o (g.told new)
+  pub unchanged : (o : Office) → g.told old ≡ Some o → changes_kept meant ≡ false → g.told new ≡ Some o
+  pub held : (o : Office) → g.told old ≡ Some o → changes_kept meant ≡ true →
+      HoldsSame (code_of done) (g.told new ≡ Some o)
+  pub unused : uses_keeper meant ≡ false → new ≡ old
+  pub faults : FaultsByPlan (g.faults old) (g.faults new) (g.plan old) (done ≡ Ok (Some KeeperFault))
+
+-- a sink before the closing line: what was written
+pub record WroteAsked {S A O K : Type 0} (s : SourceGhosts S) (a : SourceGhosts A) (g : SinkGhosts O)
+    (k : KeeperGhosts K) (limits : Limits) (meant : Option Command) (exact : Bool)
+    (done : Result (Option Closing) Failed) (source : S) (aside : A) (keeper kept : K) (old new : O) : Type 0 where
+  pub wrote : (bytes lines : List ℕ) (o : Office) →
+      IsTold meant exact (s.left source) (a.left aside) (k.told keeper) bytes lines o →
+      Wrote (office_answer limits bytes lines o meant) done (g.written old) (g.written new)
+  pub does : (bytes lines : List ℕ) (o : Office) →
+      IsTold meant exact (s.left source) (a.left aside) (k.told keeper) bytes lines o → k.told keeper ≡ Some o →
+      Did k.refuses (office_answer limits bytes lines o meant) o (g.written old) (g.written new) (k.told kept) done
+  pub sums : WroteSound meant done (g.written old) (g.written new)
+  pub faults : FaultsByRoom (g.faults old) (g.faults new) (g.room old) (g.room new) (IsErr done)
 
 -- what a run was given, or what it left of that
 pub record Objects (S A O K C : Type 0) : Type 0 where

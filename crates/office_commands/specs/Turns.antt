@@ -1,5 +1,5 @@
 -- A list of differences on its way, where the notices of one second may stand in any order.
-use Rattle.std.specs.Prelude.{ℕ, ◌≡◌, ◌+◌, ◌-◌, ◌≤◌, Bool, true, false, List, [], ◌∷◌, ◌++◌, take, Option}
+use Rattle.std.specs.Prelude.{ℕ, ◌≡◌, ◌+◌, ◌-◌, ◌≤◌, List, ◌++◌, take, Option}
 use Rattle.road_time.specs.declared.road.Notice.{Notice}
 use Rattle.ways_audit.specs.Seconds.{seconds}
 use Rattle.office_commands.specs.declared.aside.AsideEntry.{AsideEntry}

@@ -1,21 +1,14 @@
 // A command is done, but for the closing line.
-ghost use Rattle.std.specs.Prelude.{◌≡◌, ◌≢◌, ℕ, List, [], Some, Ok, false, true, IsErr};
+ghost use Rattle.std.specs.Prelude.{◌≡◌, ◌≢◌, [], Some, Ok, true};
 ghost use Rattle.road_io.specs.Plans.{NeverFails};
-ghost use Rattle.keep_office.specs.Office.{Office};
 ghost use Rattle.road_time.specs.Fits.{IsLimits};
-ghost use Rattle.road_io.specs.Within.{ReadsWithin};
 ghost use Rattle.office_words.specs.Meaning.{IsInRange};
-ghost use Rattle.office_commands.specs.Endings.{Wrote, Keeps, Did, HoldsSame, code_of};
-ghost use Rattle.office_commands.specs.Rests.{LeavesAsKept, ReadsAsked};
-ghost use Rattle.office_commands.specs.declared.closing.Closing.TheVariants.{ReadFault, KeeperFault, Words};
-ghost use Rattle.office_commands.specs.Sums.{WroteSound};
-ghost use Rattle.office_commands.specs.Uses.{IsTold, IsRightCrew, IsRightAside, SourceTells, KeeperTells, uses_crew};
-ghost use Rattle.office_commands.specs.Uses.{uses_source, uses_aside, uses_keeper, changes_kept, AsksPassed, PutsAsked};
-ghost use Rattle.office_commands.specs.Uses.{most_of, most_aside_of};
-ghost use Rattle.office_commands.specs.Starts.{StartsAsked, SeesAsked};
-ghost use Rattle.office_commands.specs.Commands.{office_answer};
+ghost use Rattle.office_commands.specs.Endings.{code_of};
+ghost use Rattle.office_commands.specs.declared.closing.Closing.TheVariants.{ReadFault, Words};
+ghost use Rattle.office_commands.specs.Uses.{uses_source, uses_aside};
+ghost use Rattle.office_commands.specs.Starts.{SeesAsked};
 ghost use Rattle.office_commands.specs.Faults.{ReadFaults, TellsNoOther};
-ghost use Rattle.road_io.specs.Blame.{FaultsByPlan, FaultsByRoom};
+ghost use Rattle.office_commands.specs.Ran.{ReadsSource, ReadsAside, WroteAsked, KeptAsked, WorksAsked};
 
 use crate::answers::answers;
 use crate::checks::check;
@@ -55,58 +48,22 @@ pub(crate) fn perform<S: Source, A: Source, O: Sink, K: Keeper, C: Crew, R: Thre
     requires limits { IsLimits limits.now }
     requires range { IsInRange command }
     requires idle { C.out crew.old ≡ [] }
-    ensures wrote { (bytes lines : List ℕ) (o : Office)
-        → IsTold (Some command) C.exact (S.left source.old) (A.left aside.old) (K.told keeper.old) bytes lines o
-        → Wrote (office_answer limits.now bytes lines o (Some command)) result (O.written sink.old)
-        (O.written sink.new) }
-    ensures keeps { (bytes lines : List ℕ) (o : Office) → IsRightCrew (Some command) C.exact
-        → SourceTells (Some command) (S.left source.old) bytes → K.told keeper.old ≡ Some o
-        → Keeps K.refuses (office_answer limits.now bytes lines o (Some command)) o (K.told keeper.new) result }
-    ensures does { (bytes lines : List ℕ) (o : Office)
-        → IsTold (Some command) C.exact (S.left source.old) (A.left aside.old) (K.told keeper.old) bytes lines o
-        → K.told keeper.old ≡ Some o
-        → Did K.refuses (office_answer limits.now bytes lines o (Some command)) o (O.written sink.old)
-        (O.written sink.new) (K.told keeper.new) result }
-    ensures sums { WroteSound (Some command) result (O.written sink.old) (O.written sink.new) }
-    ensures puts { (o : Office) → K.told keeper.old ≡ Some o → PutsAsked (Some command) o (K.told keeper.new) }
-    ensures unchanged { (o : Office) → K.told keeper.old ≡ Some o → changes_kept (Some command) ≡ false
-        → K.told keeper.new ≡ Some o }
-    ensures held { (o : Office) → K.told keeper.old ≡ Some o → changes_kept (Some command) ≡ true
-        → HoldsSame (code_of result) (K.told keeper.new ≡ Some o) }
     ensures said { result ≢ Ok (Some Words) }
-    ensures source_unused { uses_source (Some command) ≡ false → source.new ≡ source.old }
-    ensures passed { (o : Office) → K.told keeper.old ≡ Some o → AsksPassed (Some command) o → source.new ≡ source.old }
-    ensures aside_unused { uses_aside (Some command) ≡ false → aside.new ≡ aside.old }
-    ensures keeper_unused { uses_keeper (Some command) ≡ false → keeper.new ≡ keeper.old }
-    ensures crew_unused { uses_crew (Some command) ≡ false → crew.new ≡ crew.old }
-    ensures jobs { (bytes : List ℕ) → uses_crew (Some command) ≡ true
-        → SourceTells (Some command) (S.left source.old) bytes
-        → StartsAsked limits.now (Some command) bytes (K.told keeper.old) (code_of result) (C.jobs crew.old)
-        (C.jobs crew.new) }
-    ensures by { SeesAsked (Some command) (code_of result) shards_seen.new }
-    ensures idle { C.out crew.new ≡ [] }
-    ensures crew { C.which crew.new ≡ C.which crew.old }
-    ensures reads { uses_source (Some command) ≡ true
-        → ReadsAsked limits.now (Some command) (code_of result) (S.left source.old) (S.left source.new) }
-    ensures rest { (bytes : List ℕ) (o : Office) → changes_kept (Some command) ≡ true
-        → SourceTells (Some command) (S.left source.old) bytes → K.told keeper.old ≡ Some o
-        → LeavesAsKept limits.now (Some command) (code_of result) o bytes (S.left source.new) }
-    ensures refused_first { code_of result ≡ 2 → aside.new ≡ aside.old }
-    ensures source_first { (bytes : List ℕ) → S.left source.old ≡ Some bytes → S.left source.new ≢ Some []
-        → aside.new ≡ aside.old }
-    ensures bounded { (o : Office) → KeeperTells (Some command) (K.told keeper.old) o
-        → ReadsWithin (most_of limits.now o (Some command)) (S.left source.old) (S.left source.new) }
-    ensures aside_bounded { (bytes : List ℕ) (o : Office) → IsRightAside (Some command) C.exact
-        → SourceTells (Some command) (S.left source.old) bytes → KeeperTells (Some command) (K.told keeper.old) o
-        → ReadsWithin (most_aside_of limits.now bytes o (Some command)) (A.left aside.old) (A.left aside.new) }
+    ensures source { ReadsSource S.Source limits.now (Some command) (K.told keeper.old) (code_of result) source.old
+        source.new }
+    ensures aside { ReadsAside S.Source A.Source limits.now (Some command) C.exact (K.told keeper.old)
+        (code_of result) source.old source.new aside.old aside.new }
     ensures read { ReadFaults (S.faults source.old) (S.faults source.new) (A.faults aside.old) (A.faults aside.new)
         (uses_source (Some command) ≡ true → NeverFails (S.plan source.old))
         (uses_aside (Some command) ≡ true → NeverFails (A.plan aside.old)) (result ≡ Ok (Some ReadFault))
         (TellsNoOther result) }
-    ensures sink { FaultsByRoom (O.faults sink.old) (O.faults sink.new) (O.room sink.old) (O.room sink.new)
-        (IsErr result) }
-    ensures keeper { FaultsByPlan (K.faults keeper.old) (K.faults keeper.new) (K.plan keeper.old)
-        (result ≡ Ok (Some KeeperFault)) }
+    ensures sink { WroteAsked S.Source A.Source O.Sink K.Keeper limits.now (Some command) C.exact result source.old
+        aside.old keeper.old keeper.new sink.old sink.new }
+    ensures keeper { KeptAsked S.Source K.Keeper limits.now (Some command) C.exact result source.old keeper.old
+        keeper.new }
+    ensures crew { WorksAsked S.Source C.Crew limits.now (Some command) (K.told keeper.old) (code_of result) source.old
+        crew.old crew.new }
+    ensures by { SeesAsked (Some command) (code_of result) shards_seen.new }
 {
     match command {
         Command::Answers(run) => {

@@ -4,5 +4,5 @@ pub mod Says
 pub mod Words
 pub mod Drops
 pub mod Endings
-
--- What a run promises, object by object.
+-- What a run that begins anew promises, object by object.
+pub mod Anew

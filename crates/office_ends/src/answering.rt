@@ -4,13 +4,9 @@ ghost use Rattle.std.specs.String.{string_bytes};
 ghost use Rattle.std.specs.Fn.{FnReturnsAt};
 ghost use Rattle.road_io.specs.Blame.{FaultsByRoom};
 ghost use Rattle.road_time.specs.Fits.{IsLimits};
-ghost use Rattle.keep_office.specs.Office.{Office};
-ghost use Rattle.keep_office.specs.Renewals.{IsRenewedOr};
 ghost use Rattle.day_import.specs.Faults.{FaultsBeside};
 ghost use Rattle.office_commands.specs.Uses.{asked};
-ghost use Rattle.office_ends.specs.declared.ending.Ending.{Ending as EndingValue};
-ghost use Rattle.office_ends.specs.Drops.{command_answer, DoesCommand};
-ghost use Rattle.office_ends.specs.Endings.{Closes};
+ghost use Rattle.office_ends.specs.Anew.{BeginsAnew};
 ghost use Rattle.office_commands.specs.Ran.{Ran};
 ghost use Rattle.office_ends.specs.Says.{Said, SaysWhy};
 ghost use Rattle.office_ends.specs.Words.{renewal_said, drop_said};
@@ -55,16 +51,10 @@ pub fn answered<
     requires callable { F.IsAlwaysCallable why.now }
     ensures says { SaysWhy result (FnReturnsAt F.Fn why.now keeper.new)
         (Said (E.room err.old) (E.written err.old) (E.written err.new)) (err.new ≡ err.old) }
-    ensures renews { (base : ℕ) (o : Office) → renewal_said (map string_bytes words.now) ≡ Some base
-        → K.Keeper.told keeper.old ≡ Some o
-        → DoesCommand (command_answer (drop_said (map string_bytes words.now)) base o) (K.Keeper.told keeper.new) result
-        (O.written sink.old) (O.written sink.new) }
-    ensures whole { (base : ℕ) (o : Office) → renewal_said (map string_bytes words.now) ≡ Some base
-        → K.Keeper.told keeper.old ≡ Some o → IsRenewedOr base o (K.Keeper.told keeper.new) }
-    ensures closes { (base : ℕ) → renewal_said (map string_bytes words.now) ≡ Some base
-        → (e : EndingValue) × Closes e result (O.written sink.old) (O.written sink.new) }
-    ensures alone { (base : ℕ) → renewal_said (map string_bytes words.now) ≡ Some base
-        → (source.new ≡ source.old) × (aside.new ≡ aside.old) × (crew.new ≡ crew.old) }
+    ensures renewal { (base : ℕ) → renewal_said (map string_bytes words.now) ≡ Some base
+        → BeginsAnew O.Sink K.Keeper (drop_said (map string_bytes words.now)) base result
+        (record { source = source.old; aside = aside.old; sink = sink.old; keeper = keeper.old; crew = crew.old })
+        (record { source = source.new; aside = aside.new; sink = sink.new; keeper = keeper.new; crew = crew.new }) }
     ensures office { renewal_said (map string_bytes words.now) ≡ None
         → Ran S.Source A.Source O.Sink K.Keeper C.Crew limits.now (asked words.now) result
         (record { source = source.old; aside = aside.old; sink = sink.old; keeper = keeper.old; crew = crew.old })

@@ -1,10 +1,9 @@
-use Rattle.std.proofs.Common.{◌≡◌, ◌∙◌, ◌≤◌, ◌<◌, ◌+◌, ◌-◌, ◌^◌, ◌∷◌, ℕ, List, length, take, drop, rules, refl, sym, ap}
-use Rattle.std.proofs.Common.{subst, arith, min}
+use Rattle.std.proofs.Common.{◌≡◌, ◌∙◌, ◌<◌, ◌^◌, ◌∷◌, ℕ, List, length, drop, rules, refl, sym, ap}
+use Rattle.std.proofs.Common.{subst, arith}
 use Rattle.std.proofs.lemmas.List.{length-drop, length-take-le}
 use Rattle.road_time.specs.declared.road.Notice.{Notice}
 use Rattle.road_io.specs.Cutter.{ahead, line_of}
 use Rattle.ways_audit.specs.Seconds.{seconds}
-use Rattle.office_commands.specs.declared.difference.Difference.{Difference}
 use Rattle.office_commands.specs.declared.second.Reach.{Reach}
 use Rattle.office_commands.specs.AnyOrder.{differences_by_second}
 use Rattle.office_commands.specs.Turns.{ListsSeconds, ReachTo}

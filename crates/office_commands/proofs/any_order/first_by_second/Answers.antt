@@ -1,4 +1,4 @@
-use Rattle.std.proofs.Common.{◌∙◌, ◌+◌, List, ℕ, [], length, refl, ap, arith}
+use Rattle.std.proofs.Common.{◌∙◌, ◌+◌, [], length, refl, ap, arith}
 use Rattle.std.specs.Io.KnownBytes.{prepend_known}
 use Rattle.road_io.specs.Cutter.{ahead}
 use Rattle.office_commands.specs.Entries.{HasReadEntries, most_compared}

@@ -1,9 +1,8 @@
-use Rattle.std.proofs.Common.{◌≡◌, ◌∙◌, ◌≤◌, ◌<◌, ◌+◌, ◌-◌, ◌^◌, [], ℕ, List, length, take, rules, refl, sym, ap, subst}
+use Rattle.std.proofs.Common.{◌≡◌, ◌∙◌, ◌≤◌, ◌<◌, [], length, rules, refl, subst}
 use Rattle.std.proofs.Common.{arith}
 use Rattle.road_io.specs.Cutter.{ahead, line_of}
-use Rattle.office_commands.specs.declared.difference.Difference.{Difference}
 use Rattle.office_commands.specs.declared.listing.Step.{Step}
-use Rattle.office_commands.specs.Listings.{ListsOn, StepsTo, StepCounts}
+use Rattle.office_commands.specs.Listings.{StepsTo, StepCounts}
 use Rattle.office_commands.proofs.ListingLaws.{read_more, ready_more}
 use Rattle.office_commands.proofs.SecondLaws.{full_taken, whole_taken}
 use Rattle.office_commands.proofs.any_order.lines_over.Goals as goal

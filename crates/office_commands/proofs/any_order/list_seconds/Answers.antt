@@ -1,4 +1,4 @@
-use Rattle.std.proofs.Common.{◌≡◌, ◌++◌, ℕ, List, [], sym, ap, subst}
+use Rattle.std.proofs.Common.{◌≡◌, ◌++◌, List, [], sym, ap, subst}
 use Rattle.road_io.specs.Cutter.{ahead, line_of}
 use Rattle.ways_audit.specs.Seconds.{seconds}
 use Rattle.office_commands.specs.declared.difference.Difference.{Difference}

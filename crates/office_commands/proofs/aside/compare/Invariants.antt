@@ -1,4 +1,4 @@
-use Rattle.std.proofs.Common.{◌≡◌, ◌+◌, ◌≤◌, List, ℕ, Some, None}
+use Rattle.std.proofs.Common.{◌≡◌, ◌+◌, List, ℕ, Some, None}
 use Rattle.road_io.specs.Plans.{NeverFails}
 use Rattle.road_io.specs.Cutter.{ahead, line_number, fault_of}
 use Rattle.office_commands.specs.Entries.{HasReadEntries}

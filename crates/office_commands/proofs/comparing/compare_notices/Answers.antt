@@ -1,4 +1,4 @@
-use Rattle.std.proofs.Common.{◌≡◌, List, [], Some, ap, sym, subst, ◌∙◌}
+use Rattle.std.proofs.Common.{List, [], Some, ap, sym, subst, ◌∙◌}
 use Rattle.road_time.specs.Lines.{lines_of}
 use Rattle.office_commands.specs.declared.closing.Closing.{Closing}
 use Rattle.office_commands.specs.declared.difference.Difference.{Difference}

@@ -1,9 +1,8 @@
-use Rattle.std.proofs.Common.{◌≡◌, ◌∙◌, [], Some, Ok, refl, sym, subst}
+use Rattle.std.proofs.Common.{[], Some, Ok, sym, subst}
 use Rattle.road_io.proofs.SinkLaws.{appends_none}
 use Rattle.office_commands.specs.declared.closing.Closing.{Closing}
 use Rattle.office_commands.specs.Commands.{days_command}
 use Rattle.office_commands.specs.Endings.{Wrote}
-use Rattle.office_commands.proofs.KeepingLaws.{kept_same}
 use Rattle.office_commands.proofs.ClosingLaws.{refuses_empty}
 use Rattle.office_commands.proofs.days.days.Goals as goal
 

@@ -1,7 +1,7 @@
-use Rattle.std.proofs.Common.{List, [], IfOk, length, sym, ap, subst}
+use Rattle.std.proofs.Common.{List, IfOk, sym, subst}
 use Rattle.road_time.specs.declared.road.Notice.{Notice}
 use Rattle.road_io.specs.Cutter.{ahead, line_of}
-use Rattle.office_commands.specs.Listings.{ListsOn, StepsTo, StepCounts}
+use Rattle.office_commands.specs.Listings.{ListsOn, StepsTo}
 use Rattle.office_commands.proofs.ListingLaws.{no_notices}
 use Rattle.office_commands.proofs.listing.line_step.Goals as goal
 

@@ -1,9 +1,9 @@
-use Rattle.std.proofs.Common.{List, IfOk, length, sym, ap, subst}
+use Rattle.std.proofs.Common.{length, sym, subst}
 use Rattle.std.proofs.lemmas.Result.{IfOk-weaker}
 use Rattle.road_io.specs.Cutter.{ahead, line_of}
 use Rattle.office_commands.specs.declared.aside.AsideEntry.{AsideEntry}
 use Rattle.office_commands.specs.declared.listing.Step.{Step}
-use Rattle.office_commands.specs.Listings.{ListsOn, StepsTo, StepCounts}
+use Rattle.office_commands.specs.Listings.{ListsOn, StepsTo}
 use Rattle.office_commands.proofs.listing.next_step.Goals as goal
 
 pub returns-in-Long-clause-exact : goal.returns-in-Long-clause-exact

@@ -1,4 +1,3 @@
-use Rattle.std.proofs.Common.{arith}
 use Rattle.office_commands.proofs.LimitLaws.{same_reads}
 use Rattle.office_commands.proofs.run_limits.run_limits.Goals as goal
 

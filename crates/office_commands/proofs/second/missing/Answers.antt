@@ -1,7 +1,6 @@
-use Rattle.std.proofs.Common.{◌≡◌, ◌∙◌, ◌≤◌, ◌<◌, ◌+◌, ◌++◌, List, length, rules, refl, sym, ap, arith, true, false}
+use Rattle.std.proofs.Common.{◌≡◌, ◌∙◌, ◌≤◌, ◌<◌, ◌+◌, length, rules, sym, ap, arith, true, false}
 use Rattle.std.proofs.lemmas.List.{length_push}
 use Rattle.ways_audit.specs.Seconds.{still}
-use Rattle.office_commands.specs.AnyOrder.{missing_at}
 use Rattle.office_commands.proofs.SecondLaws.{full_taken, list_passes, list_tells, list_passed}
 use Rattle.office_commands.proofs.second.missing.Goals as goal
 

@@ -1,15 +1,13 @@
-use Rattle.std.proofs.Common.{◌≡◌, ◌∙◌, ◌≤◌, ◌<◌, ◌+◌, ◌-◌, ◌^◌, ◌++◌, ℕ, List, length, rules, refl, sym, ap, subst}
-use Rattle.std.proofs.Common.{arith, IfOk}
+use Rattle.std.proofs.Common.{◌≡◌, ◌∙◌, ◌≤◌, ◌<◌, ◌++◌, ℕ, length, rules, refl, sym, ap, subst}
+use Rattle.std.proofs.Common.{arith}
 use Rattle.std.proofs.lemmas.Result.{IfOk-weaker}
 use Rattle.road_time.specs.declared.road.Notice.{Notice}
 use Rattle.road_io.specs.Cutter.{ahead, line_of}
 use Rattle.ways_audit.specs.Seconds.{still, count_in}
-use Rattle.office_commands.specs.declared.difference.Difference.{Difference}
 use Rattle.office_commands.specs.declared.entry_text.EntryText.{EntryText}
 use Rattle.office_commands.specs.declared.turns.Turn.{Turn}
 use Rattle.office_commands.specs.AnyOrder.{missing_at}
 use Rattle.office_commands.specs.Turns.{ListsSecond, TurnsTo, TurnCounts, found_at}
-use Rattle.office_commands.proofs.ListingLaws.{read_more}
 use Rattle.office_commands.proofs.SecondLaws.{full_taken, whole_taken, reach_by}
 use Rattle.office_commands.proofs.second.one_second.Goals as goal
 

@@ -1,4 +1,4 @@
-use Rattle.std.proofs.Common.{◌≡◌, ◌≢◌, List, ℕ, sym, subst, arith}
+use Rattle.std.proofs.Common.{List, sym, subst, arith}
 use Rattle.office_commands.specs.declared.difference.Difference.{Difference}
 use Rattle.office_commands.specs.Commands.{compare_command}
 use Rattle.office_commands.specs.Differences.{differences_text}

@@ -1,4 +1,4 @@
-use Rattle.std.proofs.Common.{◌+◌, ◌≤◌, arith}
+use Rattle.std.proofs.Common.{◌+◌, arith}
 use Rattle.road_io.specs.Cutter.{ahead, line_of, line_number}
 use Rattle.office_commands.proofs.ListingLaws.{ready_there, ready_more}
 use Rattle.office_commands.proofs.TurnLaws.{second_at_line, turn_came}

@@ -1,4 +1,4 @@
-use Rattle.std.proofs.Common.{◌≡◌, ◌∙◌, ◌≤◌, ℕ, Result, Ok, IfOk, length, rules, sym, ap, subst, true, false}
+use Rattle.std.proofs.Common.{◌≡◌, ◌∙◌, ◌≤◌, ℕ, Result, IfOk, length, rules, sym, ap, subst, true, false}
 use Rattle.road_time.specs.Lines.{without_cr}
 use Rattle.road_time.specs.Text.{read_notice}
 use Rattle.road_time.specs.declared.road.Notice.{Notice}

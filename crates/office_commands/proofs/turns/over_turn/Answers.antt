@@ -1,10 +1,7 @@
-use Rattle.std.proofs.Common.{◌≡◌, ◌+◌, ◌≤◌, ◌++◌, ◌∷◌, [], List, length, arith, ap, sym, subst, ◌∙◌, refl}
+use Rattle.std.proofs.Common.{◌+◌, List, length, arith, ap, sym, subst, ◌∙◌}
 use Rattle.std.proofs.lemmas.List.{length_push}
 use Rattle.road_io.specs.Cutter.{ahead, line_of, line_number}
 use Rattle.office_commands.specs.declared.difference.Difference.{Difference}
-use Rattle.office_commands.specs.declared.difference.DifferenceKind.TheVariants.{Additional}
-use Rattle.office_commands.specs.declared.entry_text.EntryText.TheVariants.{Nothing}
-use Rattle.office_commands.specs.Differences.{differs_at}
 use Rattle.office_commands.specs.Turns.{ListsSecond}
 use Rattle.office_commands.proofs.AsideLaws.{short}
 use Rattle.office_commands.proofs.ListingLaws.{ready_there, ready_more}
