@@ -27,6 +27,7 @@ function __toll_words
             case rehearse
                 set words --vehicles --minutes --xways --crashes --late --workers --turns --backlog
         end
+        set words $words --wait
     end
     for word in $words
         contains -- $word $given; or echo $word

@@ -28,6 +28,7 @@ _toll_office() {
         generate) options="--vehicles --minutes --xways --crashes" ;;
         rehearse) options="--vehicles --minutes --xways --crashes --late --workers --turns --backlog" ;;
         esac
+        options+=" --wait"
     fi
     _toll_offer "$options"
 }

@@ -4,7 +4,8 @@
     python3 tools/check_words.py
 
 The grammar is the table in `crates/office_words/specs/Table.antt`, beside it what `crates/office_ends/specs/Words.antt` takes,
-and, of the server, `crates/serve_top/specs/App.antt`. The script ends with status 1 and names each word that a page lacks or has
+the option of each command that `crates/office_words/specs/Waits.antt` takes off, and, of the server,
+`crates/serve_top/specs/App.antt`. The script ends with status 1 and names each word that a page lacks or has
 too much. If groff is there, the manual pages must give it no warning.
 """
 import pathlib
@@ -42,6 +43,11 @@ def office():
     words = text("crates/office_ends/specs/Words.antt")
     beside = re.search(r'bytes_eq name \(codes "(\w+)"\)', words)
     return {**forms, beside.group(1): (["base"], sorted(set(re.findall(r'codes "--(\w+)"', words))))}
+
+
+def waits():
+    """The options that each command takes."""
+    return sorted(set(re.findall(r'codes "--(\w+)"', text("crates/office_words/specs/Waits.antt"))))
 
 
 def server():
@@ -83,11 +89,12 @@ def main():
     head = page.partition(".SH DESCRIPTION")[0]
     synopsis = {it.split()[1]: it for it in re.findall(r"^toll_office \w+.*$", head, re.M)}
     same("toll_office.1: synopsis", synopsis, forms)
-    every = set()
+    of_each = waits()
+    every = set(of_each)
     for name, (places, options) in forms.items():
         every |= set(options)
         words = [f"--{it}" for it in options]
-        same(f"completion: {name}", completed("toll_office", name, ""), words)
+        same(f"completion: {name}", completed("toll_office", name, ""), words + [f"--{it}" for it in of_each])
         said = synopsis.get(name, "")
         if "options of" not in said:
             same(f"toll_office.1: {name}", re.findall(r"--[\w-]+", said), words)
