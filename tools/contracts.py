@@ -1,7 +1,8 @@
 #!/usr/bin/env python3
-"""Writes crates/NAME/CONTRACTS.md: each public call of a crate with its clauses, the sentence of each, and where it stands.
+"""Writes crates/NAME/CONTRACTS.md: each public call of a crate with its clauses, the sentence of each, and where it stands; and
+docs/CALLS.md, an index of all of them.
 
-    python3 tools/contracts.py             writes the page of each crate
+    python3 tools/contracts.py             writes the page of each crate, and the index
     python3 tools/contracts.py --check     writes nothing; ends with status 1 where a page would change or a sentence is wrong
     python3 tools/contracts.py --missing   names the clauses of public calls that have no sentence yet
 
@@ -130,8 +131,8 @@ def page(name, rows):
     things = [it for it in of.things.values() if it.name in of.shown and it.clauses or any(it is call for call in named_too)]
     _, notes, reasons = texts(name)
     lines = [f"# The contracts of `{name}`", "",
-             "Written by `tools/contracts.py` from the code and from `contracts.txt`. Each clause is proved. A link leads to the line",
-             "of a clause; the definitions that the clauses use are listed at the end.", ""]
+             "Written by `tools/contracts.py` from the code and from `contracts.txt`. Each clause is proved. A link leads to the",
+             "line of a clause; the definitions that the clauses use are listed at the end.", ""]
     if notes:
         lines += ["## In general", ""] + [it for note in notes for it in (note, "")]
     if reasons:
@@ -162,6 +163,25 @@ def page(name, rows):
     return "\n".join(lines).rstrip() + "\n"
 
 
+def index():
+    """All public calls by their names, each with its crate and its part there."""
+    kinds = {"Calls that ship": "ships", "Calls that only the library offers": "library", "Laws": "law"}
+    found = []
+    for name in names():
+        taken = {}
+        for call in sorted(public_calls(crate(name)), key=lambda it: list(kinds).index(kind_of(name, it))):
+            anchor = "".join(it for it in full(call).lower() if it.isalnum() or it in "_-")
+            taken[anchor] = taken.get(anchor, -1) + 1
+            if call.clauses:
+                at = f"{anchor}-{taken[anchor]}" if taken[anchor] else anchor
+                found.append((call.name.lower(), f"| [`{full(call)}`](../crates/{name}/CONTRACTS.md#{at}) | `{name}` "
+                                                 f"| {len(call.clauses)} | {kinds[kind_of(name, call)]} |"))
+    head = ["# Calls", "", "All public calls that have clauses, by their names; written by `tools/contracts.py`. *Ships* means that one",
+            "of the two programs reaches the call, as far as names in the code tell.", "",
+            "| Call | Crate | Clauses | |", "|---|---|---|---|"]
+    return "\n".join([*head, *(row for _, row in sorted(found))]) + "\n"
+
+
 def missing(name, rows):
     """The clauses of a crate's public calls that have no sentence."""
     for call in public_calls(crate(name)):
@@ -176,7 +196,7 @@ def main():
     words.add_argument("--check", action="store_true")
     words.add_argument("--missing", action="store_true")
     given = words.parse_args()
-    wrong, count, clauses = [], 0, 0
+    wrong, count, clauses, pages = [], 0, 0, {TOP / "docs/CALLS.md": index()}
     rows = all_rows(wrong)
     for name in names():
         public = list(public_calls(crate(name)))
@@ -187,9 +207,10 @@ def main():
             print(*lacks, sep="\n", end="\n" if lacks else "")
         if len(lacks) != OPEN.get(name, 0):
             wrong.append(f"crates/{name}: {len(lacks)} clauses without a sentence, and OPEN says {OPEN.get(name, 0)}; see --missing")
-        if not public and not texts(name)[0]:
+        if not public and not any(texts(name)):
             continue
-        path, text = TOP / "crates" / name / "CONTRACTS.md", page(name, rows)
+        pages[TOP / "crates" / name / "CONTRACTS.md"] = page(name, rows)
+    for path, text in pages.items():
         if not path.exists() or path.read_text() != text:
             if given.check:
                 wrong.append(f"{path.relative_to(TOP)}: would change; run tools/contracts.py")

@@ -68,7 +68,8 @@ def crate_table():
             kit = [it for it in table[name] if it not in table]
             few = kit if len(kit) <= 6 else [*kit[:1], f"and {len(kit) - 1} more of the kit"]
             below = ", ".join([*own, *(f"*{it}*" for it in few)])
-            rows.append(f"| `{name}` | {first_sentence(name)} | {below} |")
+            page = f"[`{name}`](../crates/{name}/CONTRACTS.md)" if (TOP / "crates" / name / "CONTRACTS.md").exists() else f"`{name}`"
+            rows.append(f"| {page} | {first_sentence(name)} | {below} |")
     return "\n".join(rows)
 
 
