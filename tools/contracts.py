@@ -85,11 +85,14 @@ def call_text(name, call, rows, first, shown):
     where = f"[{'/'.join(call.path.relative_to(TOP / 'crates').parts[1:])}:{call.line}]({link(call, call.line)})"
     lines = [f"### `{full(call)}`", "", f"{where}. {call.says}".strip()]
     trait = getattr(call, "trait", "")
-    if trait and any(trait in crate(it).things for it in names()):
+    if trait and trait != call.owner and any(trait in crate(it).things for it in names()):
         lines += ["", f"A call of `{trait}`, whose clauses it has."]
     asks = [f"[{it.name or 'a premise'}]({link(call, it.line)}) `{it.body}`" for it in call.clauses if it.kind == "requires"]
     if asks:
         lines += ["", f"Asks: {'; '.join(asks)}."]
+    always = [f"{named(call, it)} `{' '.join(it.body.split())}`" for it in call.clauses if getattr(call, "kind", "") == "struct"]
+    if always:
+        lines += ["", f"Always so: {'; '.join(always)}."]
     mine = [row for row in rows if any(it is call for _, it in row.calls)]
     told = {it for row in mine for it in row.hits.get(id(call), [])}
     bare = [it for it in call.clauses if it.kind == "ensures" and it.name not in told and shown and not inherited(call, it)]

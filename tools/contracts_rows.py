@@ -114,13 +114,14 @@ def settle(row, wrong):
         for name, call in found:
             row.calls.append((name, call))
             hits = row.hits.setdefault(id(call), [])
+            fields_told = set(ticked(outside(by))) - {it.name for it in call.clauses if it.kind != "requires"}
             for clause in call.clauses:
                 fields = fields_of(clause, call.path)
                 every |= {clause.name, *fields}
                 if clause.kind == "requires":
                     continue
                 own = clause.name in ticked(by) if clause.name else "the clause" in by or "its bounds" in by
-                if own or any(it in fields for it in ticked(outside(by))):
+                if own or any(it in fields for it in fields_told):
                     hits.append(clause.name)
             every |= {it.name for of in trait_calls(call) for it in of.clauses}
         asked = set(ticked(re.sub(r"\b(?:of|by) `[^`]*`", "", outside(by))))

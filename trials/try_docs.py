@@ -26,7 +26,8 @@ import threading
 
 from office import TOP, free_port
 
-PAGES = ["README.md", "docs/USE.md", "docs/HTTP.md", "docs/FORMATS.md", "docs/PROOF.md", "docs/RULES.md", "docs/EXAMPLES.md"]
+PAGES = ["README.md", "docs/USE.md", "docs/HTTP.md", *sorted(f"docs/{it.name}" for it in (TOP / "docs").glob("*.md")
+                                                           if it.name not in ("USE.md", "HTTP.md"))]
 MARK = "--- the end of a command ---"
 GATE = ".ci/run"
 FIRST = 'mkdir "$OLD/room" && cp "$OLD"/crates/example_office/data/*.csv "$OLD/room" && cd "$OLD/room"'
@@ -50,11 +51,18 @@ BEGIN = {
 BEFORE = {
     "python3 tools/unproved.py toll_office ../unproved": 'cd "$OLD"',
     'export PATH="$PWD/crates/toll_office/out:$PATH"': 'cd "$OLD"',
+    "python3 tools/places.py Command::Tariffs": 'cd "$SOURCE"',
 }
 
 # what is run for a command between backticks, and what that prints; none: it is a form, or stands in a block too
 INLINE = {
     "rt ci": None, "rt try": None, "rt run": None, "rt check": None, "rt doc": None,
+    "rt check --start": None, "rt check --only=": None, "rt check --only path::to::function": None, "rt lemma WORDS": None,
+    "rt try --test": None, "rt fmt": None, "rt ci NAME": None, "python3 tools/edits.py NAME": None, "tools/figures.py LOG": None,
+    "git show --stat": None,
+    # the gate runs these with --check
+    "python3 tools/check_words.py": None, "python3 tools/contracts.py": None, "tools/contracts.py --missing": None,
+    "tools/places.py Asked::Days": [('python3 "$SOURCE/tools/places.py" Asked::Days | head -n 1', "code: ..")],
     "rt version": [("rt version | grep -c rattle-kit-", "1")],
     "python3 tools/build.py toll_serve": [
         ('python3 "$OLD/tools/build.py" toll_serve | tail -n 2', "crates/toll_serve/out/toll_serve\nproved and built in .. minutes")],
