@@ -1,7 +1,9 @@
 /* For LD_PRELOAD. Writes, cuts and syncs of files whose names begin as "tolls.db" are recorded in the file RECORD, in the
-   order in which they end, beside what is written to pipes and sockets: a letter, the name, a place, a length, bytes. */
+   order in which they end, beside what is written to pipes and sockets: a letter, the name, a place, a length, bytes.
+   Behind the first STOP of these calls the disk stops, and each fails; where HALF is set half of the next write comes. */
 #define _GNU_SOURCE
 #include <dlfcn.h>
+#include <errno.h>
 #include <fcntl.h>
 #include <pthread.h>
 #include <stdint.h>
@@ -56,6 +58,24 @@ static void record(char what, const char *name, int64_t place, const void *bytes
     pthread_mutex_unlock(&lock);
 }
 
+/* How many calls behind the last that goes well a call of a kept file is; 0 where the disk has not stopped. */
+static long stopped(int fd) {
+    static long calls;
+    char name[40];
+    const char *most = getenv("STOP");
+    if (!most || !name_of(fd, name) || name[0] == '-')
+        return 0;
+    pthread_mutex_lock(&lock);
+    long late = ++calls - atol(most);
+    pthread_mutex_unlock(&lock);
+    return late > 0 ? late : 0;
+}
+
+static int failed(void) {
+    errno = EIO;
+    return -1;
+}
+
 static ssize_t wrote(int fd, const void *bytes, ssize_t done, int64_t place, char what) {
     char name[40];
     if (done > 0 && name_of(fd, name))
@@ -73,12 +93,16 @@ ssize_t send(int fd, const void *bytes, size_t length, int flags) {
 }
 
 ssize_t pwrite(int fd, const void *bytes, size_t length, off_t place) {
+    long late = stopped(fd);
+    if (late) {
+        if (late == 1 && getenv("HALF") && REAL(pwrite)(fd, bytes, length / 2, place) < 0)
+            abort();
+        return failed();
+    }
     return wrote(fd, bytes, REAL(pwrite)(fd, bytes, length, place), place, 'W');
 }
 
-ssize_t pwrite64(int fd, const void *bytes, size_t length, off64_t place) {
-    return wrote(fd, bytes, REAL(pwrite64)(fd, bytes, length, place), place, 'W');
-}
+ssize_t pwrite64(int fd, const void *bytes, size_t length, off64_t place) { return pwrite(fd, bytes, length, place); }
 
 static int changed(int fd, int done, int64_t place, char what) {
     char name[40];
@@ -87,10 +111,10 @@ static int changed(int fd, int done, int64_t place, char what) {
     return done;
 }
 
-int ftruncate(int fd, off_t length) { return changed(fd, REAL(ftruncate)(fd, length), length, 'T'); }
+int ftruncate(int fd, off_t length) { return stopped(fd) ? failed() : changed(fd, REAL(ftruncate)(fd, length), length, 'T'); }
 
-int ftruncate64(int fd, off64_t length) { return changed(fd, REAL(ftruncate64)(fd, length), length, 'T'); }
+int ftruncate64(int fd, off64_t length) { return ftruncate(fd, length); }
 
-int fsync(int fd) { return changed(fd, REAL(fsync)(fd), 0, 'S'); }
+int fsync(int fd) { return stopped(fd) ? failed() : changed(fd, REAL(fsync)(fd), 0, 'S'); }
 
-int fdatasync(int fd) { return changed(fd, REAL(fdatasync)(fd), 0, 'S'); }
+int fdatasync(int fd) { return stopped(fd) ? failed() : changed(fd, REAL(fdatasync)(fd), 0, 'S'); }

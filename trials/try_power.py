@@ -9,6 +9,8 @@ Behind each of these moments a disk may have kept all that was not synced, none 
 bytes: such images are made, at most so many of each run, drawn with a fixed seed beyond that. The office then lists the days of
 each, and Python's sqlite3 checks it: what is kept has to be the office of before the command or after it, each day that was
 answered as stored by then has to be there, and the list must not fail. A folder in which nothing was made yet may be empty.
+Then each command runs over a disk that stops at each of these calls in turn, and once more where half of that write came: it
+has to end well or with a keeper's fault whose line says so, and leave the same two offices, the later one where it ended well.
 Status 1 at the first difference.
 """
 import argparse
@@ -165,6 +167,43 @@ def by_command(office, folder, words, text):
     return start
 
 
+# what a line may say of a disk that stops, as docs/FORMATS.md has it
+STOPPED = ("the disk failed", "an earlier failure of the disk closed it", "it cannot be opened",
+           "a page or a row of it is spoiled, or the disk failed")
+FAULT, NOT_CLOSED = "toll_office: tolls.db: ", "toll_office: tolls.db is not closed, what was put lies in its log: "
+
+
+def said_so(done):
+    """Whether a command over a disk that stopped says so: a keeper's fault, or a close that failed behind what was done."""
+    lines = done.stderr.decode().splitlines()
+    heads = (FAULT, NOT_CLOSED) if done.returncode == 6 else (NOT_CLOSED,)
+    fault = done.returncode == 6 and done.stdout.endswith(b"# keeper fault\n")
+    return (fault or done.returncode == 0) and all(line in [head + it for head in heads for it in STOPPED] for line in lines)
+
+
+def try_stops(office, top, name, held, words, text, calls, may_be, library):
+    """A command over a disk that stops at each of its calls: how many runs left the office before, and how many the one after."""
+    left = [0, 0]
+    for calls_done in range(calls + 1):
+        for half in ({}, {"HALF": "1"}):
+            folder = top / "stops"
+            shutil.rmtree(folder, ignore_errors=True)
+            shutil.copytree(held, folder)
+            extra = {"LD_PRELOAD": library, "STOP": str(calls_done), **half}
+            done = subprocess.run([office, *words], cwd=folder, input=text, capture_output=True, env={**os.environ, **extra})
+            shown = office_of(office, folder)
+            what = f"{name}, the disk stops behind {calls_done} of {calls} calls {half}: {done}"
+            if not said_so(done) or (done.returncode == 6 and not done.stderr):
+                fail(what)
+            if calls_done == calls and (done.returncode, done.stderr) != (0, b""):
+                fail(what)
+            if shown not in may_be or (done.returncode == 0 and shown != may_be[1]):
+                fail(f"{what}, and left {shown}")
+            left[may_be.index(shown)] += 1
+    print(f"{name}: the disk stops at each of {calls} calls: {left} left the office before, and the one after")
+    return sum(left)
+
+
 def by_server(server_program, folder, days):
     def start(extra):
         server = running(server_program, folder, extra)
@@ -196,17 +235,21 @@ def main():
             ("a renewal", ["renew", "102"], b"", set()),
         ]
         each = max(1, asked.images // (len(runs) + 1))
-        count = 0
+        count = stopped = 0
+        clone = top / "clone"
         empty = top / "empty"
         empty.mkdir()
         before = office_of(office, empty)
         for name, words, text, stored in runs:
+            shutil.rmtree(clone, ignore_errors=True)
+            shutil.copytree(folder, clone)
             held, events = recorded(library, folder, by_command(office, folder, words, text))
             after = office_of(office, folder)
+            calls = sum(event[0] in "WTS" for event in events)
+            stopped += try_stops(office, top, name, clone, words, text, calls, [before, after], library)
             count += try_run(office, top, name, held, events, [before, after], each, stored)
             before = after
         offices = [before]
-        clone = top / "clone"
         for last in range(102, 105):
             shutil.rmtree(clone, ignore_errors=True)
             shutil.copytree(folder, clone)
@@ -214,7 +257,7 @@ def main():
             offices.append(office_of(office, clone))
         held, events = recorded(library, folder, by_server(server_program, folder, range(102, 105)))
         count += try_run(office, top, "a server with three days", held, events, offices, each, {102, 103, 104})
-        print(f"{count} images in all: none lost a day that was answered, none was no office")
+        print(f"{count} images in all: none lost a day that was answered, none was no office; nor {stopped} disks that stopped")
 
 
 if __name__ == "__main__":

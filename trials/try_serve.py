@@ -13,7 +13,8 @@ there are file handles; 200 faults of accept, and threads that cannot be had; PO
 leave; a day of so many lines again, posted beside 650 silent clients and ten POSTs in line, while others ask for live
 totals and kept amounts; a POST of a passed day and one of a refused day, whose bodies of some MB come slowly, and a client
 that does not take its answer, beside the next POST; clients that are answered and go on sending; a POST whose body comes a
-byte a second, and one whose body is held back, beside clients that ask for what is kept; clients that vanish; a kill -9 at
+byte a second, and one whose body is held back, beside clients that ask for what is kept; 1,024 POSTs in line; the health
+over another's file; clients that vanish; a kill -9 at
 moments of a POST. The server then ends by its sessions, and Python's `sqlite3` reads what it kept. The script ends with status
 1 at the first answer that is not the expected one, or that comes late. The faults of accept are made by
 `trials/fail_accept.c`, built by `cc`. With --short what takes long is left out: several expressways, crowds of silent clients,
@@ -282,7 +283,7 @@ def post_quietly(server, lines, answers):
 
 def try_answers(program, folder):
     """Every path and every refusal."""
-    server = Server(program, folder, 60)
+    server = Server(program, folder, 80)
     server.ask("GET", "/live")
     busy = subprocess.run([program, str(server.port)], cwd=tempfile.gettempdir(), capture_output=True, timeout=60)
     expect("a port that is taken", (busy.returncode, busy.stdout, busy.stderr), (2, b"", b""))
@@ -298,6 +299,9 @@ def try_answers(program, folder):
         ("GET", "/days/100/", None, no_path),
         ("GET", "/spent/100/256/1", None, no_path),
         ("GET", "/spent/0/0/1", None, no_path),
+        ("GET", "/health", None, (200, "OK", '{"last_day":0}')),
+        ("GET", "/health/", None, no_path),
+        ("POST", "/health", b"", method),
         ("GET", "/nothing", None, no_path),
         ("DELETE", "/days/100", None, method),
         ("POST", "/live", b"", method),
@@ -330,6 +334,7 @@ def try_answers(program, folder):
     expect("GET /live/100", server.ask("GET", "/live/100"), (200, "OK", '{"as_of":56,"balance":2,"day":100}'))
     expect("GET /live", server.ask("GET", "/live"), (200, "OK", '{"as_of":56,"day":100,"total":2}'))
     expect("GET /spent", server.ask("GET", "/spent/100/0/100"), (200, "OK", '{"spent":2}'))
+    expect("GET /health", server.ask("GET", "/health"), (200, "OK", '{"last_day":100}'))
     other = json.loads(server.ask("POST", "/days/100", b"abc")[2])
     expect("other bytes", (other["error"], other["kept"], other["found"]), ("differs", day["digest"], other["found"]))
     expect("an earlier day", server.ask("POST", "/days/99", b""), (409, "Conflict", '{"error":"passed","last":100}'))
@@ -346,7 +351,7 @@ def try_answers(program, folder):
         ]:
             status, _, text = server.curl(way, path, body)
             expect(f"curl {way} {path}", (status, json.loads(text)), answer)
-    asked = 60 - server.left
+    asked = 80 - server.left
     expect("the end", server.end(), (0, b""))
     print(f"every path and refusal: {asked} connections, each answered as stated; the server ended by its sessions, status 0")
 
@@ -864,6 +869,50 @@ def try_full(program, folder):
           f" 1,014 silent ones, with 1,024 file handles: {nothing:.1f} ms, and a day is looked for")
 
 
+def post_whole(server):
+    """A POST of a passed day whose head is whole."""
+    wire = server.connect(SILENCE * 3)
+    wire.sendall(b"POST /days/99 HTTP/1.1\r\nContent-Length: 0\r\n\r\n")
+    return wire
+
+
+def try_posts(program, folder):
+    """A POST whose body is held back, and 1,024 POSTs with whole heads behind it: who asks is answered, also of what is kept, and the
+    first 239 of those in line are when it ends."""
+    hard = resource.getrlimit(resource.RLIMIT_NOFILE)[1]
+    resource.setrlimit(resource.RLIMIT_NOFILE, (min(4096, hard), hard))
+    server = Server(program, folder, 5_000, handles=1024)
+    expect("the first day", server.ask("POST", "/days/100", b"")[0], 200)
+    wire = server.connect(SILENCE * 3)
+    wire.sendall(b"POST /days/101 HTTP/1.1\r\nContent-Length: %d\r\n\r\n" % len(LATE) + LATE[:-1])
+    line = [post_whole(server) for _ in range(1024)]
+    most = live_beside(server, "POSTs in line")
+    expect("the health beside POSTs in line", server.ask("GET", "/health"), (200, "OK", '{"last_day":100}'))
+    wire.sendall(LATE[-1:])
+    expect("the POST that was held", all_of(wire).split(b"\r\n")[0], b"HTTP/1.1 422 Unprocessable Entity")
+    answers = [rest_of(each) for each in line]
+    expect("the first in line", answers[:239], [passed_by(100)] * 239)
+    expect("the others", {each for each in answers[239:]} - {passed_by(100)}, {b""})
+    for each in [wire, *line]:
+        each.close()
+    server.end()
+    print(f"1,024 POSTs in line behind one that is held back: 99th percentile of live totals {most:.1f} ms; {sum(map(bool, answers))} of them"
+          " were answered, the first ones")
+
+
+def try_health(program, folder):
+    """Beside a file that is not ours the health is 503, and 200 once that is gone."""
+    kept = pathlib.Path(folder, "tolls.db")
+    kept.write_bytes(b"not a database, " * 512)
+    server = Server(program, folder, 100)
+    expect("the health over another's file", server.ask("GET", "/health"), (503, "Service Unavailable", '{"error":"keeper"}'))
+    expect("that file", kept.read_bytes(), b"not a database, " * 512)
+    kept.unlink()
+    expect("the health over none", server.ask("GET", "/health"), (200, "OK", '{"last_day":0}'))
+    server.end()
+    print("the health is 503 over another's file, and 200 once it is gone")
+
+
 def try_reads(program, folder, path):
     """Three bodies of a passed day that come slowly, and six clients that ask for kept days and lists over and over, while a day is
     read and stored: who asks for the live total waits for none of them. What is left of the slow bodies has 30 seconds in all."""
@@ -1098,8 +1147,8 @@ def main():
     folder = tempfile.mkdtemp()
     try_words(program)
     try_answers(program, folder)
-    attempts = [try_bodies, try_stream, try_handles, try_threads, try_drains, try_passed, try_checks, try_marks]
-    for attempt in attempts if given.short else attempts + [try_ways, try_silent, try_faults, try_line, try_full]:
+    attempts = [try_bodies, try_stream, try_handles, try_threads, try_drains, try_passed, try_checks, try_marks, try_health]
+    for attempt in attempts if given.short else attempts + [try_ways, try_silent, try_faults, try_line, try_full, try_posts]:
         in_a_folder(attempt, program)
     if not given.short:
         in_a_folder(try_beside, program, make_day(given.folder, str(given.beside)))

@@ -5,12 +5,13 @@ use Rattle.road_io.specs.Faults.{Rose}
 use Rattle.road_io.specs.Rooms.{Room}
 use Rattle.keep_office.specs.declared.kept.DayRecord.{DayRecord}
 use Rattle.road_time.specs.History.{paid}
-use Rattle.keep_office.specs.Office.{Office, vehicle_rows_between}
+use Rattle.keep_office.specs.Office.{Office, last_day, vehicle_rows_between}
 use Rattle.day_import.specs.declared.outcomes.Outcome.{Outcome}
 use Rattle.day_import.specs.declared.outcomes.Outcome.TheVariants.{Stored, Already, Answered, Refused, DayPassed}
 use Rattle.day_import.specs.declared.outcomes.Outcome.TheVariants.{Differs, ReadFault, WriteFault, KeeperFault}
 use Rattle.day_import.specs.declared.outcomes.Outcome.TheVariants.{NoMemory}
 use Rattle.serve_requests.specs.Bodies.{day_body, imported_body, refused_body, passed_body, differs_body, spent_body}
+use Rattle.serve_requests.specs.Bodies.{health_body}
 use Rattle.serve_requests.specs.Lists.{days_body, vehicle_body}
 use Rattle.serve_requests.specs.Replies.{Reply, reply_bytes, error_reply, no_memory_reply}
 use Rattle.serve_requests.specs.Sends.{SendsReply, Replies, HasRoom, HasRoomFor}
@@ -61,6 +62,10 @@ days_reply o = good (days_body o.days)
 -- what a vehicle was charged on the days from one to another
 abbrev pub vehicle_reply : Office → ℕ → ℕ → ℕ → Reply
 vehicle_reply o vid from to = good (vehicle_body vid from to (vehicle_rows_between o vid from to))
+
+-- the last day, of a keeper that answers
+abbrev pub health_reply : Office → Reply
+health_reply o = good (health_body (last_day o))
 
 -- how an import ended; the last three do not come
 abbrev pub outcome_reply : Outcome → Reply

@@ -7,9 +7,10 @@ use Rattle.keep_office.specs.Office.{Office, record_of}
 use Rattle.serve_requests.specs.declared.asked.Asked.{Asked}
 use Rattle.serve_requests.specs.declared.asked.Asked.TheVariants.{Day, Import, Spent, Live, LiveTotal, Vehicle, Days}
 use Rattle.serve_requests.specs.declared.asked.Asked.TheVariants.{Page}
-use Rattle.serve_requests.specs.declared.asked.Asked.TheVariants.{Answers}
+use Rattle.serve_requests.specs.declared.asked.Asked.TheVariants.{Answers, Health}
 use Rattle.serve_requests.specs.declared.session_end.SessionEnd.{SessionEnd}
-use Rattle.serve_desk.specs.Answers.{Wire, day_reply, spent_reply, days_reply, vehicle_reply, AnswersUnlessFailed}
+use Rattle.serve_desk.specs.Answers.{Wire, day_reply, spent_reply, days_reply, vehicle_reply, health_reply}
+use Rattle.serve_desk.specs.Answers.{AnswersUnlessFailed}
 use Rattle.serve_desk.specs.Pages.{AnswersPage}
 use Rattle.serve_desk.specs.Imports.{DeskState, ImportsDay}
 use Rattle.serve_desk.specs.Streams.{AnswersDay}
@@ -18,8 +19,8 @@ use Rattle.serve_desk.specs.Streams.{AnswersDay}
 abbrev pub LeavesAll : Office → DeskState → DeskState → Wire → Wire → Type 0
 LeavesAll o was now old new = (now.told ≡ Some o) × (now.posted ≡ was.posted) × (new.left ≡ old.left)
 
--- a session's end of what is asked of what is kept: the reply of a day, of an amount, of all days or of a vehicle, or
--- the page, which leave all as it is; or that of an import; or the notices of a day, of which nothing is kept
+-- a session's end of what is asked of what is kept: the reply of a day, of an amount, of all days, of a vehicle or
+-- of the last day, or the page, which leave all as it is; or that of an import; or the notices of a day, of which nothing is kept
 abbrev pub AnswersKept : WhenRefused → Bool → Asked → Limits → Office → DeskState → DeskState → Wire → Wire →
     SessionEnd → Type 0
 AnswersKept w exact (Day day) limits o was now old new end =
@@ -37,6 +38,9 @@ AnswersKept w exact (Vehicle vid from to) limits o was now old new end =
 AnswersKept w exact Days limits o was now old new end =
     LeavesAll o was now old new
     × AnswersUnlessFailed (days_reply o) was.faults now.faults old.room old.written new.written end
+AnswersKept w exact Health limits o was now old new end =
+    LeavesAll o was now old new
+    × AnswersUnlessFailed (health_reply o) was.faults now.faults old.room old.written new.written end
 AnswersKept w exact Page limits o was now old new end =
     LeavesAll o was now old new × (now.faults ≡ was.faults) × AnswersPage old.room old.written new.written end
 AnswersKept w exact (Answers day count early) limits o was now old new end =
@@ -54,6 +58,7 @@ IsOfKept (Import day count early) = Unit {0}
 IsOfKept (Vehicle vid from to) = Unit {0}
 IsOfKept Days = Unit {0}
 IsOfKept Page = Unit {0}
+IsOfKept Health = Unit {0}
 IsOfKept (Answers day count early) = Unit {0}
 IsOfKept (Live vid) = ⊥
 IsOfKept LiveTotal = ⊥

@@ -9,7 +9,7 @@ use Rattle.serve_requests.specs.Replies.{Reply, no_memory_reply}
 use Rattle.serve_requests.specs.declared.asked.Asked.{Asked}
 use Rattle.serve_requests.specs.declared.asked.Asked.TheVariants.{Day, Import, Spent, Live, LiveTotal, Vehicle, Days}
 use Rattle.serve_requests.specs.declared.asked.Asked.TheVariants.{Page}
-use Rattle.serve_requests.specs.declared.asked.Asked.TheVariants.{Answers}
+use Rattle.serve_requests.specs.declared.asked.Asked.TheVariants.{Answers, Health}
 use Rattle.serve_requests.specs.declared.session_end.SessionEnd.{SessionEnd}
 use Rattle.serve_desk.specs.Answers.{Wire, AnswersReply, good}
 
@@ -23,6 +23,7 @@ asked_of (Import day count early) = None
 asked_of (Vehicle vid from to) = None
 asked_of Days = None
 asked_of Page = None
+asked_of Health = None
 asked_of (Answers day count early) = None
 
 -- a request asks for the live board
@@ -35,6 +36,7 @@ IsOfLive (Import day count early) = ⊥
 IsOfLive (Vehicle vid from to) = ⊥
 IsOfLive Days = ⊥
 IsOfLive Page = ⊥
+IsOfLive Health = ⊥
 IsOfLive (Answers day count early) = ⊥
 
 -- a vehicle's account on a board, or what all owe

@@ -1,5 +1,5 @@
 -- What who answers sessions, one after another, has seen: of the board by its reader, and of the history of the keeper.
-use Rattle.std.specs.Prelude.{◌≡◌, ℕ, List, [], ◌++◌, refl}
+use Rattle.std.specs.Prelude.{◌≡◌, List, [], ◌++◌, refl}
 use Rattle.std.specs.Coded.{Coded, code_by, coded×, coded_list}
 use Rattle.std.proofs.Common.{ap, sym, ◌∙◌}
 use Rattle.std.proofs.lemmas.List.{append_assoc, append-nil}

@@ -8,16 +8,16 @@ use Rattle.keep_office.specs.Calls.{WhenRefused}
 use Rattle.keep_office.specs.declared.kept.DayRecord.{DayRecord}
 use Rattle.keep_office.specs.Office.{Office, record_of, last_day}
 use Rattle.day_import.specs.declared.outcomes.Outcome.{Outcome}
-use Rattle.serve_requests.specs.Bodies.{spent_body}
+use Rattle.serve_requests.specs.Bodies.{spent_body, health_body}
 use Rattle.serve_requests.specs.Lists.{days_body, vehicle_body}
 use Rattle.serve_requests.specs.Replies.{Reply, no_memory_reply}
 use Rattle.serve_requests.specs.declared.asked.Asked.{Asked}
 use Rattle.serve_requests.specs.declared.asked.Asked.TheVariants.{Day, Import, Spent, Live, LiveTotal, Vehicle, Days}
 use Rattle.serve_requests.specs.declared.asked.Asked.TheVariants.{Page}
-use Rattle.serve_requests.specs.declared.asked.Asked.TheVariants.{Answers}
+use Rattle.serve_requests.specs.declared.asked.Asked.TheVariants.{Answers, Health}
 use Rattle.serve_requests.specs.declared.session_end.SessionEnd.{SessionEnd}
 use Rattle.serve_desk.specs.Answers.{Wire, AnswersReply, AnswersExactly, AnswersUnlessFailed, keeper_reply, good}
-use Rattle.serve_desk.specs.Answers.{day_reply, spent_reply, vehicle_reply}
+use Rattle.serve_desk.specs.Answers.{day_reply, spent_reply, vehicle_reply, health_reply}
 use Rattle.serve_desk.specs.Days.{first_day, as_list}
 use Rattle.serve_desk.specs.Pages.{AnswersPage}
 use Rattle.serve_desk.specs.Imports.{AnswersBody, IsCutShort, FailsInBody, DeskState, ImportsDay}
@@ -114,8 +114,8 @@ AnswersNotices told w exact limits day count early old new end =
     (StreamsShared told w exact limits day count early old new end × ReadsOn count early old new)
     ⊎ HasNoHandle old new end
 
--- what is asked is answered of a keeper that others may call between: a day, an amount and a vehicle's bill of one of
--- its states, all days day by day of its states, the page, a POST behind its body and exactly of one of its
+-- what is asked is answered of a keeper that others may call between: a day, an amount, a vehicle's bill and the last
+-- day of one of its states, all days day by day of its states, the page, a POST behind its body and exactly of one of its
 -- states, and the notices of a day exactly of one too; a POST teaches the reader, and its seat goes on to what it kept,
 -- and all else leaves both as they were
 abbrev pub AnswersShared : {K : Type 0} → (K → Option Office) → (K → ℕ) → WhenRefused → Bool → Limits → Asked →
@@ -136,6 +136,9 @@ AnswersShared told faults w exact limits Days p q old new end =
     AnswersListed told faults old new end
     × AnswersSome {T = List DayRecord} faults (λ days. good (days_body days)) old new end
     × (new.left ≡ old.left) × (q ≡ p)
+AnswersShared told faults w exact limits Health p q old new end =
+    AnswersOf told faults health_reply old new end
+    × AnswersSome {T = ℕ} faults (λ n. good (health_body n)) old new end × (new.left ≡ old.left) × (q ≡ p)
 AnswersShared told faults w exact limits Page p q old new end =
     AnswersPage old.room old.written new.written end × (new.left ≡ old.left) × (q ≡ p)
 AnswersShared told faults w exact limits (Answers day count early) p q old new end =

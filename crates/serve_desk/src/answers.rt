@@ -9,7 +9,8 @@ ghost use Rattle.serve_requests.specs.Lists.{days_body as body_of_days};
 ghost use Rattle.keep_office.specs.declared.kept.DayRecord.{DayRecord as TheDay};
 ghost use Rattle.serve_requests.specs.declared.session_end.SessionEnd.TheVariants.{Answered, LinkFault};
 ghost use Rattle.serve_desk.specs.Answers.{AnswersReply, AnswersUnlessFailed, day_reply, spent_reply, keeper_reply};
-ghost use Rattle.serve_desk.specs.Answers.{days_reply, vehicle_reply, AnswersExactly, TellsFault, good, wire_of};
+ghost use Rattle.serve_desk.specs.Answers.{days_reply, vehicle_reply, health_reply, AnswersExactly, TellsFault};
+ghost use Rattle.serve_desk.specs.Answers.{good, wire_of};
 ghost use Rattle.serve_desk.specs.Pages.{AnswersPage};
 ghost use Rattle.serve_desk.specs.Shared.{AnswersSome};
 
@@ -19,8 +20,8 @@ use keep_office::{DayRecord, KeepFault, Keeper};
 use road_io::Link;
 use road_time::NoMemory;
 use serve_requests::{
-    SessionEnd, day_body, days_body, keeper_text, no_day_text, send_bytes, send_no_memory,
-    send_page, send_reply, spent_body, vehicle_body,
+    SessionEnd, day_body, days_body, health_body, keeper_text, no_day_text, send_bytes,
+    send_no_memory, send_page, send_reply, spent_body, vehicle_body,
 };
 use std::alloc::Global;
 
@@ -137,6 +138,25 @@ pub fn answer_spent<L: Link, K: Keeper>(
 {
     match keeper.spent(day, vid, xway) {
         Ok(amount) => send_made(alloc, link, StatusCode::OK, spent_body(alloc, amount)),
+        Err(fault) => send_refusal(fault, link),
+    }
+}
+
+/// Answers the last day that is kept, for which the keeper is asked.
+pub fn answer_health<L: Link, K: Keeper>(alloc: Global, keeper: &mut K, link: &mut L) -> SessionEnd
+    ensures sent { (o : Office) → K.told keeper.old ≡ Some o → AnswersUnlessFailed (health_reply o)
+        (K.faults keeper.old) (K.faults keeper.new) (L.room link.old) (L.written link.old) (L.written link.new) result }
+    ensures told { (o : Office) → K.told keeper.old ≡ Some o → K.told keeper.new ≡ Some o }
+    ensures unavailable { result ≡ Answered 503 → Rose (K.faults keeper.old) (K.faults keeper.new) }
+    ensures failed { K.faults keeper.old < K.faults keeper.new → TellsFault result }
+    ensures unread { L.left link.new ≡ L.left link.old }
+    ensures sure { L.room link.old ≡ Endless → result ≢ LinkFault }
+    ensures cause { result ≡ LinkFault → Rose (L.faults link.old) (L.faults link.new) }
+    ensures later { L.faults link.old ≤ L.faults link.new }
+    ensures keeper_later { K.faults keeper.old ≤ K.faults keeper.new }
+{
+    match keeper.last_day() {
+        Ok(last) => send_made(alloc, link, StatusCode::OK, health_body(alloc, last)),
         Err(fault) => send_refusal(fault, link),
     }
 }

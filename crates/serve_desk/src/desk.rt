@@ -11,7 +11,9 @@ ghost use Rattle.serve_desk.specs.Answers.{wire_of, TellsFault};
 ghost use Rattle.serve_desk.specs.Imports.{state_of};
 ghost use Rattle.serve_desk.specs.Desk.{AnswersKept, IsOfKept};
 
-use crate::answers::{answer_day, answer_days, answer_page, answer_spent, answer_vehicle};
+use crate::answers::{
+    answer_day, answer_days, answer_health, answer_page, answer_spent, answer_vehicle,
+};
 use crate::import_desk::ImportDesk;
 use crate::notices::answer_notices;
 use crate::posting::answer_import;
@@ -75,6 +77,7 @@ impl<K: Keeper, C: Crew, R: Wait + Threads + Drop> Desk<K, C, R> {
             }
             Asked::Days => answer_days(alloc, &mut self.keeper, link),
             Asked::Page => answer_page(alloc, link),
+            Asked::Health => answer_health(alloc, &mut self.keeper, link),
             Asked::Import { day, length, early } => {
                 let work = DayWork {
                     day: *day,

@@ -113,6 +113,7 @@ pub fn live_answer<L: Link, W: Watch>(
         Asked::Vehicle { .. } => unreachable!(),
         Asked::Days => unreachable!(),
         Asked::Page => unreachable!(),
+        Asked::Health => unreachable!(),
         Asked::Answers { .. } => unreachable!(),
     }
 }

@@ -38,6 +38,7 @@ pub fn is_live(asked: &Asked) -> bool
         Asked::Vehicle { .. } => false,
         Asked::Days => false,
         Asked::Page => false,
+        Asked::Health => false,
         Asked::Answers { .. } => false,
     }
 }

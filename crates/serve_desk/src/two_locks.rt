@@ -28,7 +28,7 @@ use crate::place::Place;
 use crate::posting::finish_import;
 use crate::seat::Seat;
 use crate::shared::SharedKeeper;
-use crate::shared_answers::{share_day, share_spent, share_vehicle};
+use crate::shared_answers::{share_day, share_health, share_spent, share_vehicle};
 use crate::work::{DayWork, Work};
 use keep_office::Keeper;
 use road_io::{Link, TwoWay};
@@ -185,6 +185,7 @@ fn answer_shared<
         Asked::Vehicle { vid, from, to } => share_vehicle(alloc, *vid, *from, *to, keeper, link),
         Asked::Days => share_days(alloc, keeper, link),
         Asked::Page => answer_page(alloc, link),
+        Asked::Health => share_health(alloc, keeper, link),
         Asked::Import { day, length, early } => import_shared(
             rt,
             alloc,

@@ -71,7 +71,8 @@ pub places_are_ascii : PlacesAreAscii
 places_are_ascii path p is = by (bytes_eq path (codes "/live")) refl (begins_with path (codes "/days/")) refl
     (begins_with path (codes "/live/")) refl (begins_with path (codes "/spent/")) refl
     (begins_with path (codes "/vehicles/")) refl (bytes_eq path (codes "/days")) refl
-    (bytes_eq path (codes "/")) refl (begins_with path (codes "/answers/")) refl is
+    (bytes_eq path (codes "/")) refl (begins_with path (codes "/answers/")) refl
+    (bytes_eq path (codes "/health")) refl is
   where
     behind : (front : List ℕ) → begins_with path front ≡ true → list_all (λ b. nat_le b 127) front ≡ true →
         IsAscii (drop (length front) path) → IsAscii path
@@ -82,25 +83,28 @@ places_are_ascii path p is = by (bytes_eq path (codes "/live")) refl (begins_wit
         (w : Bool) → begins_with path (codes "/live/") ≡ w → (x : Bool) → begins_with path (codes "/spent/") ≡ x →
         (y : Bool) → begins_with path (codes "/vehicles/") ≡ y → (z : Bool) → bytes_eq path (codes "/days") ≡ z →
         (t : Bool) → bytes_eq path (codes "/") ≡ t → (s : Bool) → begins_with path (codes "/answers/") ≡ s →
-        place_cases path u v w x y z t s ≡ Some p
+        (m : Bool) → bytes_eq path (codes "/health") ≡ m →
+        place_cases path u v w x y z t s m ≡ Some p
         → IsAscii path
-    by true a v b w c x d y f z g t h s i e =
+    by true a v b w c x d y f z g t h s i m j e =
         subst IsAscii (sym (bytes_same path (codes "/live") a)) (ascii_bytes (codes "/live") refl)
-    by false a true b w c x d y f z g t h s i e =
+    by false a true b w c x d y f z g t h s i m j e =
         behind (codes "/days/") b refl (day_ascii (drop 6 path) p _ refl e)
-    by false a false b true c x d y f z g t h s i e =
+    by false a false b true c x d y f z g t h s i m j e =
         behind (codes "/live/") c refl (live_ascii (drop 6 path) p _ refl e)
-    by false a false b false c true d y f z g t h s i e =
+    by false a false b false c true d y f z g t h s i m j e =
         behind (codes "/spent/") d refl (spent_ascii (drop 7 path) p e)
-    by false a false b false c false d true f z g t h s i e =
+    by false a false b false c false d true f z g t h s i m j e =
         behind (codes "/vehicles/") f refl (vehicle_ascii (drop 10 path) p e)
-    by false a false b false c false d false f true g t h s i e =
+    by false a false b false c false d false f true g t h s i m j e =
         subst IsAscii (sym (bytes_same path (codes "/days") g)) (ascii_bytes (codes "/days") refl)
-    by false a false b false c false d false f false g true h s i e =
+    by false a false b false c false d false f false g true h s i m j e =
         subst IsAscii (sym (bytes_same path (codes "/") h)) (ascii_bytes (codes "/") refl)
-    by false a false b false c false d false f false g false h true i e =
+    by false a false b false c false d false f false g false h true i m j e =
         behind (codes "/answers/") i refl (answers_ascii (drop 9 path) p _ refl e)
-    by false a false b false c false d false f false g false h false i e =
+    by false a false b false c false d false f false g false h false i true j e =
+        subst IsAscii (sym (bytes_same path (codes "/health") j)) (ascii_bytes (codes "/health") refl)
+    by false a false b false c false d false f false g false h false i false j e =
         absurd (cc e)
 
 -- bytes that are no text name no place

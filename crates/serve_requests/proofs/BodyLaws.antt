@@ -5,7 +5,7 @@ use Rattle.serde_json.specs.Written.{compact_text}
 use Rattle.json.specs.Print.{quoted}
 use Rattle.serde_json.proofs.OnLiterals.{serde_json_on_literals}
 use Rattle.serve_requests.specs.Plain.{is_plain}
-use Rattle.serve_requests.specs.Bodies.{error_body, spent_body, passed_body, live_body, total_body}
+use Rattle.serve_requests.specs.Bodies.{error_body, spent_body, health_body, passed_body, live_body, total_body}
 use Rattle.serve_requests.proofs.PlainLaws.{quoted_then}
 
 pub error_shape : (w : List ℕ) → is_plain w ≡ true →
@@ -17,6 +17,11 @@ pub spent_shape : (n : ℕ) → compact_text (object (member (codes "spent") (nu
     ≡ spent_body n
 unfolding serde_json_on_literals
 spent_shape n = refl
+
+pub health_shape : (n : ℕ) → compact_text (object (member (codes "last_day") (number (unsigned n)) no_members))
+    ≡ health_body n
+unfolding serde_json_on_literals
+health_shape n = refl
 
 pub passed_shape : (n : ℕ) → compact_text
     (object (member (codes "error") (string (codes "passed")) (member (codes "last") (number (unsigned n)) no_members)))

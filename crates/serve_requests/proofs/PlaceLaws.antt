@@ -10,10 +10,11 @@ use Rattle.serve_requests.specs.Paths.{spent_path}
 use Rattle.serve_requests.specs.Paths.{vehicle_place, vehicle_path, answers_place}
 use Rattle.serve_requests.specs.declared.place.DeskPlace.{DeskPlace}
 use Rattle.serve_requests.specs.declared.place.DeskPlace.TheVariants.{TotalPlace, VehiclePlace, DaysPlace, PagePlace}
+use Rattle.serve_requests.specs.declared.place.DeskPlace.TheVariants.{HealthPlace}
 use Rattle.serve_requests.specs.declared.route.Route.{Route}
 use Rattle.serve_requests.specs.declared.route.Route.TheVariants.{OfDay, OfLive, OfTotal, OfSpent, OfDays, OfVehicle}
 use Rattle.serve_requests.specs.declared.route.Route.TheVariants.{OfPage}
-use Rattle.serve_requests.specs.declared.route.Route.TheVariants.{OfAnswers}
+use Rattle.serve_requests.specs.declared.route.Route.TheVariants.{OfAnswers, OfHealth}
 use Rattle.serve_requests.specs.Rows.{desk_rows, key_of}
 use Rattle.serve_requests.specs.Places.{route_of, place_by, PlacesHaveRoutes, RoutesHavePlaces}
 use Rattle.serve_requests.proofs.RouteLaws.{find_routes}
@@ -129,49 +130,54 @@ answers_found text p (Some n) is e = find_routes.7 text (number_part 70 1000000 
     ∙ ap (λ q. Some (key_of (route_of q))) (place_inj _ _ e)
 
 -- the place that a path names, by what it is and what it begins with
-abbrev pub place_cases : List ℕ → Bool → Bool → Bool → Bool → Bool → Bool → Bool → Bool → Option DeskPlace
-place_cases path u v w x y z t s =
+abbrev pub place_cases : List ℕ → Bool → Bool → Bool → Bool → Bool → Bool → Bool → Bool → Bool → Option DeskPlace
+place_cases path u v w x y z t s m =
     cond u (Some TotalPlace)
     (cond v (day_place (number_in 70 1000000 (drop 6 path)))
     (cond w (live_place (number_in 0 2147483647 (drop 6 path)))
     (cond x (spent_path (parts_of (drop 7 path)))
     (cond y (vehicle_path (parts_of (drop 10 path)))
     (cond z (Some DaysPlace)
-    (cond t (Some PagePlace) (cond s (answers_place (number_in 70 1000000 (drop 9 path))) None)))))))
+    (cond t (Some PagePlace) (cond s (answers_place (number_in 70 1000000 (drop 9 path))) (cond m (Some HealthPlace) None))))))))
 
 -- a path that names a place finds the route of that place
 pub places_have_routes : PlacesHaveRoutes
 places_have_routes path p is = by (bytes_eq path (codes "/live")) refl (begins_with path (codes "/days/")) refl
     (begins_with path (codes "/live/")) refl (begins_with path (codes "/spent/")) refl
     (begins_with path (codes "/vehicles/")) refl (bytes_eq path (codes "/days")) refl
-    (bytes_eq path (codes "/")) refl (begins_with path (codes "/answers/")) refl is
+    (bytes_eq path (codes "/")) refl (begins_with path (codes "/answers/")) refl
+    (bytes_eq path (codes "/health")) refl is
   where
     by : (u : Bool) → bytes_eq path (codes "/live") ≡ u → (v : Bool) → begins_with path (codes "/days/") ≡ v →
         (w : Bool) → begins_with path (codes "/live/") ≡ w → (x : Bool) → begins_with path (codes "/spent/") ≡ x →
         (y : Bool) → begins_with path (codes "/vehicles/") ≡ y → (z : Bool) → bytes_eq path (codes "/days") ≡ z →
         (t : Bool) → bytes_eq path (codes "/") ≡ t → (s : Bool) → begins_with path (codes "/answers/") ≡ s →
-        place_cases path u v w x y z t s ≡ Some p
+        (m : Bool) → bytes_eq path (codes "/health") ≡ m →
+        place_cases path u v w x y z t s m ≡ Some p
         → first desk_rows path ≡ Some (key_of (route_of p))
-    by true a v b w c x d y f z g t h s i e =
+    by true a v b w c x d y f z g t h s i m j e =
         ap (first desk_rows) (bytes_same path (codes "/live") a) ∙ find_routes.0
         ∙ ap (λ q. Some (key_of (route_of q))) (place_inj _ _ e)
-    by false a true b w c x d y f z g t h s i e =
+    by false a true b w c x d y f z g t h s i m j e =
         ap (first desk_rows) (front_is path (codes "/days/") b) ∙ day_found (drop 6 path) p _ refl e
-    by false a false b true c x d y f z g t h s i e =
+    by false a false b true c x d y f z g t h s i m j e =
         ap (first desk_rows) (front_is path (codes "/live/") c) ∙ live_found (drop 6 path) p _ refl e
-    by false a false b false c true d y f z g t h s i e =
+    by false a false b false c true d y f z g t h s i m j e =
         ap (first desk_rows) (front_is path (codes "/spent/") d) ∙ spent_found (drop 7 path) p e
-    by false a false b false c false d true f z g t h s i e =
+    by false a false b false c false d true f z g t h s i m j e =
         ap (first desk_rows) (front_is path (codes "/vehicles/") f) ∙ vehicle_found (drop 10 path) p e
-    by false a false b false c false d false f true g t h s i e =
+    by false a false b false c false d false f true g t h s i m j e =
         ap (first desk_rows) (bytes_same path (codes "/days") g) ∙ find_routes.4
         ∙ ap (λ q. Some (key_of (route_of q))) (place_inj _ _ e)
-    by false a false b false c false d false f false g true h s i e =
+    by false a false b false c false d false f false g true h s i m j e =
         ap (first desk_rows) (bytes_same path (codes "/") h) ∙ find_routes.6
         ∙ ap (λ q. Some (key_of (route_of q))) (place_inj _ _ e)
-    by false a false b false c false d false f false g false h true i e =
+    by false a false b false c false d false f false g false h true i m j e =
         ap (first desk_rows) (front_is path (codes "/answers/") i) ∙ answers_found (drop 9 path) p _ refl e
-    by false a false b false c false d false f false g false h false i e =
+    by false a false b false c false d false f false g false h false i true j e =
+        ap (first desk_rows) (bytes_same path (codes "/health") j) ∙ find_routes.8
+        ∙ ap (λ q. Some (key_of (route_of q))) (place_inj _ _ e)
+    by false a false b false c false d false f false g false h false i false j e =
         absurd (cc e)
 
 -- a path that finds no route names no place
@@ -210,40 +216,45 @@ named_by_route : (path : List ℕ) (p : DeskPlace) → path_place path ≡ Some 
 named_by_route path p is = by (bytes_eq path (codes "/live")) refl (begins_with path (codes "/days/")) refl
     (begins_with path (codes "/live/")) refl (begins_with path (codes "/spent/")) refl
     (begins_with path (codes "/vehicles/")) refl (bytes_eq path (codes "/days")) refl
-    (bytes_eq path (codes "/")) refl (begins_with path (codes "/answers/")) refl is
+    (bytes_eq path (codes "/")) refl (begins_with path (codes "/answers/")) refl
+    (bytes_eq path (codes "/health")) refl is
   where
     by : (u : Bool) → bytes_eq path (codes "/live") ≡ u → (v : Bool) → begins_with path (codes "/days/") ≡ v →
         (w : Bool) → begins_with path (codes "/live/") ≡ w → (x : Bool) → begins_with path (codes "/spent/") ≡ x →
         (y : Bool) → begins_with path (codes "/vehicles/") ≡ y → (z : Bool) → bytes_eq path (codes "/days") ≡ z →
         (t : Bool) → bytes_eq path (codes "/") ≡ t → (s : Bool) → begins_with path (codes "/answers/") ≡ s →
-        place_cases path u v w x y z t s ≡ Some p
+        (m : Bool) → bytes_eq path (codes "/health") ≡ m →
+        place_cases path u v w x y z t s m ≡ Some p
         → place_by (route_of p) path ≡ Some p
-    by true a v b w c x d y f z g t h s i e =
+    by true a v b w c x d y f z g t h s i m j e =
         subst (λ q. place_by (route_of q) path ≡ Some q) (place_inj _ _ e)
         (cond-true (bytes_eq path (codes "/live")) (Some TotalPlace) None a)
-    by false a true b w c x d y f z g t h s i e =
+    by false a true b w c x d y f z g t h s i m j e =
         subst (λ r. place_by r path ≡ Some p) (sym (day_route p (number_in 70 1000000 (drop 6 path)) e))
         (cond-true (begins_with path (codes "/days/")) (day_place (number_in 70 1000000 (drop 6 path))) None b ∙ e)
-    by false a false b true c x d y f z g t h s i e =
+    by false a false b true c x d y f z g t h s i m j e =
         subst (λ r. place_by r path ≡ Some p) (sym (live_route p (number_in 0 2147483647 (drop 6 path)) e))
         (cond-true (begins_with path (codes "/live/")) (live_place (number_in 0 2147483647 (drop 6 path))) None c ∙ e)
-    by false a false b false c true d y f z g t h s i e =
+    by false a false b false c true d y f z g t h s i m j e =
         subst (λ r. place_by r path ≡ Some p) (sym (spent_route p (parts_of (drop 7 path)) e))
         (cond-true (begins_with path (codes "/spent/")) (spent_path (parts_of (drop 7 path))) None d ∙ e)
-    by false a false b false c false d true f z g t h s i e =
+    by false a false b false c false d true f z g t h s i m j e =
         subst (λ r. place_by r path ≡ Some p) (sym (vehicle_route p (parts_of (drop 10 path)) e))
         (cond-true (begins_with path (codes "/vehicles/")) (vehicle_path (parts_of (drop 10 path))) None f ∙ e)
-    by false a false b false c false d false f true g t h s i e =
+    by false a false b false c false d false f true g t h s i m j e =
         subst (λ q. place_by (route_of q) path ≡ Some q) (place_inj _ _ e)
         (cond-true (bytes_eq path (codes "/days")) (Some DaysPlace) None g)
-    by false a false b false c false d false f false g true h s i e =
+    by false a false b false c false d false f false g true h s i m j e =
         subst (λ q. place_by (route_of q) path ≡ Some q) (place_inj _ _ e)
         (cond-true (bytes_eq path (codes "/")) (Some PagePlace) None h)
-    by false a false b false c false d false f false g false h true i e =
+    by false a false b false c false d false f false g false h true i m j e =
         subst (λ r. place_by r path ≡ Some p) (sym (answers_route p (number_in 70 1000000 (drop 9 path)) e))
         (cond-true (begins_with path (codes "/answers/")) (answers_place (number_in 70 1000000 (drop 9 path))) None i
         ∙ e)
-    by false a false b false c false d false f false g false h false i e =
+    by false a false b false c false d false f false g false h false i true j e =
+        subst (λ q. place_by (route_of q) path ≡ Some q) (place_inj _ _ e)
+        (cond-true (bytes_eq path (codes "/health")) (Some HealthPlace) None j)
+    by false a false b false c false d false f false g false h false i false j e =
         absurd (cc e)
 
 -- what is found behind a test is found where the test holds
@@ -276,6 +287,7 @@ named_at_all OfVehicle path p e = by_front (codes "/vehicles/") path _ p refl e
 named_at_all OfDays path p e = by_path (codes "/days") path _ p refl e
 named_at_all OfPage path p e = by_path (codes "/") path _ p refl e
 named_at_all OfAnswers path p e = by_front (codes "/answers/") path _ p refl e
+named_at_all OfHealth path p e = by_path (codes "/health") path _ p refl e
 
 -- the route of a number
 abbrev route_at : ℕ → Route
@@ -286,7 +298,8 @@ route_at (suc (suc (suc zero))) = OfSpent
 route_at (suc (suc (suc (suc zero)))) = OfDays
 route_at (suc (suc (suc (suc (suc zero))))) = OfVehicle
 route_at (suc (suc (suc (suc (suc (suc zero)))))) = OfPage
-route_at (suc (suc (suc (suc (suc (suc (suc n))))))) = OfAnswers
+route_at (suc (suc (suc (suc (suc (suc (suc zero))))))) = OfAnswers
+route_at (suc (suc (suc (suc (suc (suc (suc (suc n)))))))) = OfHealth
 
 -- the route of its number
 route_again : (r : Route) → route_at (key_of r) ≡ r
@@ -298,6 +311,7 @@ route_again OfDays = refl
 route_again OfVehicle = refl
 route_again OfPage = refl
 route_again OfAnswers = refl
+route_again OfHealth = refl
 
 -- routes of one number are one
 one_route : (q r : Route) → key_of q ≡ key_of r → q ≡ r

@@ -55,6 +55,7 @@ wanted_same wanted.LiveTotal rest = refl
 wanted_same (wanted.Vehicle vid from to) rest = refl
 wanted_same wanted.Days rest = refl
 wanted_same wanted.Page rest = refl
+wanted_same wanted.Health rest = refl
 wanted_same (wanted.Answers day count) rest = refl
 
 take_front : (n : ℕ) (rest more : List ℕ) → take n (take n rest ++ more) ≡ take n (rest ++ more)
@@ -72,6 +73,7 @@ has_body wanted.LiveTotal rest more = tt
 has_body (wanted.Vehicle vid from to) rest more = tt
 has_body wanted.Days rest more = tt
 has_body wanted.Page rest more = tt
+has_body wanted.Health rest more = tt
 has_body (wanted.Answers day count) rest more = (more, refl, take_front count rest more)
 
 -- a refusal that was answered

@@ -133,6 +133,11 @@ page_found : first desk_rows (codes "/") ≡ Some 6
 unfolding seek param_step
 page_found = refl
 
+-- the path of the keeper's health
+health_found : first desk_rows (codes "/health") ≡ Some 8
+unfolding seek param_step
+health_found = refl
+
 -- each path of a route's form finds that route
 pub find_routes : FindRoutes
 find_routes = (
@@ -154,4 +159,5 @@ find_routes = (
       ∙ last_of 5 to r,
   page_found,
   λ day p. lits (codes "/answers/") desk_rows day refl ∙ last_of 7 day p,
+  health_found,
 )

@@ -8,7 +8,7 @@ use Rattle.serve_requests.specs.Fronts.{front_of, NeverHasHead, MayGoOn, IsBadHe
 use Rattle.serve_requests.specs.declared.wanted.Wanted.{Wanted}
 use Rattle.serve_requests.specs.declared.wanted.Wanted.TheVariants.{Day, Import, Spent, Live, LiveTotal, Vehicle}
 use Rattle.serve_requests.specs.declared.wanted.Wanted.TheVariants.{Days, Page}
-use Rattle.serve_requests.specs.declared.wanted.Wanted.TheVariants.{Answers}
+use Rattle.serve_requests.specs.declared.wanted.Wanted.TheVariants.{Answers, Health}
 use Rattle.serve_requests.specs.declared.fronts.Look.{Look}
 use Rattle.serve_requests.specs.declared.fronts.Look.TheVariants.{Whole, Open, Never}
 use Rattle.serve_requests.specs.declared.fronts.Front.{Front}
@@ -24,6 +24,7 @@ IsWanted LiveTotal = Unit {0}
 IsWanted (Vehicle vid from to) = (vid ≤ 2147483647) × (1 ≤ from) × (from ≤ to) × (to ≤ 1000000)
 IsWanted Days = Unit {0}
 IsWanted Page = Unit {0}
+IsWanted Health = Unit {0}
 IsWanted (Answers day count) = (70 ≤ day) × (day ≤ 1000000) × (count ≤ 4000000000)
 
 -- what stands first in some bytes

@@ -59,6 +59,10 @@ refused_body line cause =
 abbrev pub spent_body : ℕ → List ℕ
 spent_body amount = codes "{\"spent\":" ++ (decimal amount ++ codes "}")
 
+-- the last day that is kept, of a keeper that answers
+abbrev pub health_body : ℕ → List ℕ
+health_body last = codes "{\"last_day\":" ++ (decimal last ++ codes "}")
+
 -- a vehicle's account on the live board
 abbrev pub live_body : ℕ → ℕ → ℕ → List ℕ
 live_body as_of balance day =

@@ -7,6 +7,7 @@ use Rattle.serve_requests.specs.Numbers.{number_in}
 use Rattle.serve_requests.specs.declared.place.DeskPlace.{DeskPlace}
 use Rattle.serve_requests.specs.declared.place.DeskPlace.TheVariants.{DayPlace, SpentPlace, LivePlace, TotalPlace}
 use Rattle.serve_requests.specs.declared.place.DeskPlace.TheVariants.{VehiclePlace, DaysPlace, PagePlace, AnswersPlace}
+use Rattle.serve_requests.specs.declared.place.DeskPlace.TheVariants.{HealthPlace}
 
 -- the parts of a text, with a byte between two
 abbrev pub parts_at : ℕ → List ℕ → List (List ℕ)
@@ -87,6 +88,7 @@ IsPlace (VehiclePlace vid from to) = (vid ≤ 2147483647) × (1 ≤ from) × (fr
 IsPlace DaysPlace = Unit {0}
 IsPlace PagePlace = Unit {0}
 IsPlace (AnswersPlace day) = (70 ≤ day) × (day ≤ 1000000)
+IsPlace HealthPlace = Unit {0}
 
 -- a text begins with a front
 abbrev pub begins_with : List ℕ → List ℕ → Bool
@@ -120,12 +122,16 @@ days_at path = if bytes_eq path (codes "/days") then Some DaysPlace else None
 abbrev pub page_at : List ℕ → Option DeskPlace
 page_at path = if bytes_eq path (codes "/") then Some PagePlace else None
 
+-- the place of the keeper's health, if a path is its
+abbrev pub health_at : List ℕ → Option DeskPlace
+health_at path = if bytes_eq path (codes "/health") then Some HealthPlace else None
+
 -- the place of the notices of a day that a path names
 abbrev pub answers_at : List ℕ → Option DeskPlace
 answers_at path =
     if begins_with path (codes "/answers/") then answers_place (number_in 70 1000000 (drop 9 path)) else None
 
--- the place that a path names: `/live`, `/days`, `/`, or one of five fronts with numbers behind it
+-- the place that a path names: `/live`, `/days`, `/`, `/health`, or one of five fronts with numbers behind it
 abbrev pub path_place : List ℕ → Option DeskPlace
 path_place path =
     if bytes_eq path (codes "/live") then Some TotalPlace
@@ -136,4 +142,5 @@ path_place path =
     else if bytes_eq path (codes "/days") then Some DaysPlace
     else if bytes_eq path (codes "/") then Some PagePlace
     else if begins_with path (codes "/answers/") then answers_place (number_in 70 1000000 (drop 9 path))
+    else if bytes_eq path (codes "/health") then Some HealthPlace
     else None

@@ -3,15 +3,16 @@ use Rattle.std.specs.Prelude.{◌≡◌, ℕ, List, Option, Some}
 use Rattle.std.specs.Str.{IsAscii}
 use Rattle.matchit.specs.Seek.{first}
 use Rattle.serve_requests.specs.Paths.{path_place, day_at, live_at, total_at, spent_at, vehicle_at, days_at, page_at}
-use Rattle.serve_requests.specs.Paths.{answers_at}
+use Rattle.serve_requests.specs.Paths.{answers_at, health_at}
 use Rattle.serve_requests.specs.Rows.{desk_rows, key_of}
 use Rattle.serve_requests.specs.declared.place.DeskPlace.{DeskPlace}
 use Rattle.serve_requests.specs.declared.place.DeskPlace.TheVariants.{DayPlace, SpentPlace, LivePlace, TotalPlace}
 use Rattle.serve_requests.specs.declared.place.DeskPlace.TheVariants.{VehiclePlace, DaysPlace, PagePlace, AnswersPlace}
+use Rattle.serve_requests.specs.declared.place.DeskPlace.TheVariants.{HealthPlace}
 use Rattle.serve_requests.specs.declared.route.Route.{Route}
 use Rattle.serve_requests.specs.declared.route.Route.TheVariants.{OfDay, OfLive, OfTotal, OfSpent, OfDays, OfVehicle}
 use Rattle.serve_requests.specs.declared.route.Route.TheVariants.{OfPage}
-use Rattle.serve_requests.specs.declared.route.Route.TheVariants.{OfAnswers}
+use Rattle.serve_requests.specs.declared.route.Route.TheVariants.{OfAnswers, OfHealth}
 
 -- a place's route
 abbrev pub route_of : DeskPlace → Route
@@ -23,6 +24,7 @@ route_of (VehiclePlace vid from to) = OfVehicle
 route_of DaysPlace = OfDays
 route_of PagePlace = OfPage
 route_of (AnswersPlace day) = OfAnswers
+route_of HealthPlace = OfHealth
 
 -- the place that a path of a route names
 abbrev pub place_by : Route → List ℕ → Option DeskPlace
@@ -34,6 +36,7 @@ place_by OfVehicle path = vehicle_at path
 place_by OfDays path = days_at path
 place_by OfPage path = page_at path
 place_by OfAnswers path = answers_at path
+place_by OfHealth path = health_at path
 
 -- a path that names a place finds its route
 abbrev pub PlacesHaveRoutes : Type 0

@@ -12,7 +12,7 @@ use Rattle.serve_requests.specs.Sends.{SendsReply, refusal_reply}
 use Rattle.serve_requests.specs.declared.asked.Asked.{Asked}
 use Rattle.serve_requests.specs.declared.asked.Asked.TheVariants.{Day, Import, Spent, Live, LiveTotal, Vehicle, Days}
 use Rattle.serve_requests.specs.declared.asked.Asked.TheVariants.{Page}
-use Rattle.serve_requests.specs.declared.asked.Asked.TheVariants.{Answers}
+use Rattle.serve_requests.specs.declared.asked.Asked.TheVariants.{Answers, Health}
 use Rattle.serve_requests.specs.declared.session_end.SessionEnd.{SessionEnd}
 use Rattle.serve_requests.specs.declared.session_end.SessionEnd.TheVariants.{Answered, Cut, LinkFault}
 
@@ -26,6 +26,7 @@ asked_for wanted.LiveTotal rest = LiveTotal
 asked_for (wanted.Vehicle vid from to) rest = Vehicle vid from to
 asked_for wanted.Days rest = Days
 asked_for wanted.Page rest = Page
+asked_for wanted.Health rest = Health
 asked_for (wanted.Answers day count) rest = Answers day count (take count rest)
 
 -- the numbers of what is asked are in their ranges
@@ -38,6 +39,7 @@ IsAsked LiveTotal = Unit {0}
 IsAsked (Vehicle vid from to) = (vid ≤ 2147483647) × (1 ≤ from) × (from ≤ to) × (to ≤ 1000000)
 IsAsked Days = Unit {0}
 IsAsked Page = Unit {0}
+IsAsked Health = Unit {0}
 IsAsked (Answers day count early) = (70 ≤ day) × (day ≤ 1000000) × (count ≤ 4000000000) × (length early ≤ count)
 
 -- what is asked without the body
@@ -50,6 +52,7 @@ wanted_in LiveTotal = wanted.LiveTotal
 wanted_in (Vehicle vid from to) = wanted.Vehicle vid from to
 wanted_in Days = wanted.Days
 wanted_in Page = wanted.Page
+wanted_in Health = wanted.Health
 wanted_in (Answers day count early) = wanted.Answers day count
 
 -- a head stands first in a link's bytes and ends within the first 8,192; what follows it
@@ -67,6 +70,7 @@ HasBody LiveTotal after left = Unit {0}
 HasBody (Vehicle vid from to) after left = Unit {0}
 HasBody Days after left = Unit {0}
 HasBody Page after left = Unit {0}
+HasBody Health after left = Unit {0}
 HasBody (Answers day count early) after left =
     (more : List ℕ) × (left ≡ Some more) × (take count (early ++ more) ≡ take count after)
 
@@ -87,6 +91,7 @@ WantsBody wanted.LiveTotal = ⊥
 WantsBody (wanted.Vehicle vid from to) = ⊥
 WantsBody wanted.Days = ⊥
 WantsBody wanted.Page = ⊥
+WantsBody wanted.Health = ⊥
 
 -- a head stands first that asks for what has a body
 abbrev pub AsksWithBody : List ℕ → Type 0

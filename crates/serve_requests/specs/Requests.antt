@@ -10,10 +10,11 @@ use Rattle.serve_requests.specs.Origins.{is_foreign}
 use Rattle.serve_requests.specs.declared.place.DeskPlace.{DeskPlace}
 use Rattle.serve_requests.specs.declared.place.DeskPlace.TheVariants.{DayPlace, SpentPlace, LivePlace, TotalPlace}
 use Rattle.serve_requests.specs.declared.place.DeskPlace.TheVariants.{VehiclePlace, DaysPlace, PagePlace, AnswersPlace}
+use Rattle.serve_requests.specs.declared.place.DeskPlace.TheVariants.{HealthPlace}
 use Rattle.serve_requests.specs.declared.wanted.Wanted.{Wanted}
 use Rattle.serve_requests.specs.declared.wanted.Wanted.TheVariants.{Day, Import, Spent, Live, LiveTotal, Vehicle}
 use Rattle.serve_requests.specs.declared.wanted.Wanted.TheVariants.{Days, Page}
-use Rattle.serve_requests.specs.declared.wanted.Wanted.TheVariants.{Answers}
+use Rattle.serve_requests.specs.declared.wanted.Wanted.TheVariants.{Answers, Health}
 use Rattle.serve_requests.specs.declared.wanted.Refusal.{Refusal}
 use Rattle.serve_requests.specs.declared.wanted.Refusal.TheVariants.{BadOrigin, NoPath, BadMethod, BadLength}
 use Rattle.serve_requests.specs.declared.wanted.Refusal.TheVariants.{LengthNeeded, TooLong}
@@ -74,6 +75,7 @@ asked_at (Some TotalPlace) method fields = only_get method LiveTotal
 asked_at (Some (VehiclePlace vid from to)) method fields = only_get method (Vehicle vid from to)
 asked_at (Some DaysPlace) method fields = only_get method Days
 asked_at (Some PagePlace) method fields = only_get method Page
+asked_at (Some HealthPlace) method fields = only_get method Health
 asked_at (Some (AnswersPlace day)) method fields = only_post method (answers_of day (body_length fields))
 
 -- what a target, a method and fields ask for: nothing where a page of the web may have sent them

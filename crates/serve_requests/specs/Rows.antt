@@ -7,15 +7,16 @@ use Rattle.matchit.specs.Level.{IsText}
 use Rattle.serve_requests.specs.declared.route.Route.{Route}
 use Rattle.serve_requests.specs.declared.route.Route.TheVariants.{OfDay, OfLive, OfTotal, OfSpent, OfDays, OfVehicle}
 use Rattle.serve_requests.specs.declared.route.Route.TheVariants.{OfPage}
-use Rattle.serve_requests.specs.declared.route.Route.TheVariants.{OfAnswers}
+use Rattle.serve_requests.specs.declared.route.Route.TheVariants.{OfAnswers, OfHealth}
 
 -- the rows of `/answers/{day}`, `/days/{day}`, `/days`, `/live/{vid}`, `/live`, `/spent/{day}/{xway}/{vid}`,
--- `/vehicles/{vid}/{from}/{to}` and `/`, in the router's order
+-- `/vehicles/{vid}/{from}/{to}`, `/health` and `/`, in the router's order
 abbrev pub desk_rows : Rows
 desk_rows =
     (codes "/answers/" ++ 256 ∷ [], 7)
     ∷ (codes "/days/" ++ 256 ∷ [], 0)
     ∷ (codes "/days", 4)
+    ∷ (codes "/health", 8)
     ∷ (codes "/live/" ++ 256 ∷ [], 1)
     ∷ (codes "/live", 2)
     ∷ (codes "/spent/" ++ 256 ∷ 47 ∷ 256 ∷ 47 ∷ 256 ∷ [], 3)
@@ -32,6 +33,7 @@ key_of OfDays = 4
 key_of OfVehicle = 5
 key_of OfPage = 6
 key_of OfAnswers = 7
+key_of OfHealth = 8
 
 -- the number of what the router keeps
 abbrev pub key_at : RouteOf Route → ℕ
@@ -56,3 +58,4 @@ FindRoutes =
     → first desk_rows (codes "/vehicles/" ++ (vid ++ 47 ∷ (from ++ 47 ∷ to))) ≡ Some 5)
     × (first desk_rows (codes "/") ≡ Some 6)
     × ((day : List ℕ) → IsPart day → first desk_rows (codes "/answers/" ++ day) ≡ Some 7)
+    × (first desk_rows (codes "/health") ≡ Some 8)

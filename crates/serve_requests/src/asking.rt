@@ -78,6 +78,7 @@ fn asked_at(
         }
         Some(DeskPlace::DaysPlace) => only_get(method, Wanted::Days),
         Some(DeskPlace::PagePlace) => only_get(method, Wanted::Page),
+        Some(DeskPlace::HealthPlace) => only_get(method, Wanted::Health),
         Some(DeskPlace::AnswersPlace(day)) => {
             only_post(method, day, buf, &headers[..spans.headers])
         }

@@ -6,8 +6,8 @@ ghost use Rattle.serve_requests.specs.Plain.{is_plain};
 ghost use Rattle.serve_requests.specs.Bodies as bodies;
 
 use crate::values::{
-    day_value, differs_value, error_value, imported_value, live_value, passed_value, refused_value,
-    spent_value, total_value,
+    day_value, differs_value, error_value, health_value, imported_value, live_value, passed_value,
+    refused_value, spent_value, total_value,
 };
 use keep_office::DayRecord;
 use road_digest::Digest;
@@ -29,6 +29,14 @@ pub fn spent_body(alloc: Global, amount: u64) -> Result<String, NoMemory>
     ensures { IfOk result (λ s. string_bytes s ≡ bodies.spent_body amount) }
 {
     let value = spent_value(alloc, amount)?;
+    Ok(value.to_string(alloc)?)
+}
+
+/// The last day that is kept, of a keeper that answers.
+pub fn health_body(alloc: Global, last: u32) -> Result<String, NoMemory>
+    ensures { IfOk result (λ s. string_bytes s ≡ bodies.health_body last) }
+{
+    let value = health_value(alloc, last)?;
     Ok(value.to_string(alloc)?)
 }
 

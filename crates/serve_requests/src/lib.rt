@@ -1,7 +1,7 @@
 //! Requests and answers: what a request asks of the desk, or why it is refused at once, and the texts of answers.
 //!
 //! `read_front` reads the head from a link, within its first 8,192 bytes and with at most 64 fields. `Routes` holds
-//! the desk's eight routes and finds the place that a path names. `wanted_of` judges in this order: whether a page of
+//! the desk's nine routes and finds the place that a path names. `wanted_of` judges in this order: whether a page of
 //! the web may have sent the request, the path, then the method, then the length of the body of a POST.
 //!
 //! The texts of answers: their bodies in JSON, their status lines, and all the bytes of one.
@@ -43,8 +43,8 @@ mod wanted;
 pub use asked::{Asked, Early};
 pub use asking::wanted_of;
 pub use bodies::{
-    day_body, differs_body, error_body, imported_body, live_body, passed_body, refused_body,
-    spent_body, total_body,
+    day_body, differs_body, error_body, health_body, imported_body, live_body, passed_body,
+    refused_body, spent_body, total_body,
 };
 pub use body::{Body, Start, drain};
 pub use body_end::BodyEnd;

@@ -6,6 +6,7 @@ ghost use Rattle.serve_requests.specs.Paths.{total_at as total_at_path, spent_at
 ghost use Rattle.serve_requests.specs.Paths.{vehicle_place, vehicle_path};
 ghost use Rattle.serve_requests.specs.Paths.{vehicle_at as vehicle_at_path, days_at as days_at_path};
 ghost use Rattle.serve_requests.specs.Paths.{page_at as page_at_path, answers_at as answers_at_path};
+ghost use Rattle.serve_requests.specs.Paths.{health_at as health_at_path};
 
 use crate::numbers::number_in;
 use crate::place::DeskPlace;
@@ -182,6 +183,18 @@ pub(crate) fn page_at(path: &[u8]) -> Option<DeskPlace>
 {
     if path == b"/".as_slice() {
         Some(DeskPlace::PagePlace)
+    } else {
+        None
+    }
+}
+
+/// The place of the keeper's health, if a path is its.
+pub(crate) fn health_at(path: &[u8]) -> Option<DeskPlace>
+    ensures place { result ≡ health_at_path path.now }
+    ensures within { IfSome result IsPlace }
+{
+    if path == b"/health".as_slice() {
+        Some(DeskPlace::HealthPlace)
     } else {
         None
     }

@@ -46,6 +46,7 @@ fn asked_of(alloc: Global, wanted: Wanted, rest: &[u8]) -> Result<Asked, NoMemor
         Wanted::Vehicle(vid, from, to) => Ok(Asked::Vehicle { vid, from, to }),
         Wanted::Days => Ok(Asked::Days),
         Wanted::Page => Ok(Asked::Page),
+        Wanted::Health => Ok(Asked::Health),
         Wanted::Answers(day, length) => {
             let came = length.min(rest.len() as u64) as usize;
             let early = early_of(alloc, &rest[..came])?;

@@ -19,4 +19,6 @@ pub enum Route {
     OfPage,
     /// `/answers/{day}`
     OfAnswers,
+    /// `/health`
+    OfHealth,
 }

@@ -6,7 +6,9 @@ ghost use Rattle.serve_requests.specs.Rows.{desk_rows, key_of, key_at};
 ghost use Rattle.serve_requests.specs.Paths.{path_place as place_of_path, IsPlace};
 ghost use Rattle.serve_requests.specs.Places.{place_by as place_by_route};
 
-use crate::paths::{answers_at, day_at, days_at, live_at, page_at, spent_at, total_at, vehicle_at};
+use crate::paths::{
+    answers_at, day_at, days_at, health_at, live_at, page_at, spent_at, total_at, vehicle_at,
+};
 use crate::place::DeskPlace;
 use crate::route::Route;
 use matchit::{InsertError, Router};
@@ -47,6 +49,7 @@ fn desk_router(alloc: Global) -> Result<Router<Route>, InsertError>
     router.insert("/vehicles/{vid}/{from}/{to}", Route::OfVehicle)?;
     router.insert("/answers/{day}", Route::OfAnswers)?;
     router.insert("/", Route::OfPage)?;
+    router.insert("/health", Route::OfHealth)?;
     Ok(router)
 }
 
@@ -75,6 +78,7 @@ fn place_by(route: Route, path: &[u8]) -> Option<DeskPlace>
         Route::OfDays => days_at(path),
         Route::OfPage => page_at(path),
         Route::OfAnswers => answers_at(path),
+        Route::OfHealth => health_at(path),
     }
 }
 
@@ -94,7 +98,7 @@ fn place_in(router: &Router<Route>, path: &[u8]) -> Option<DeskPlace>
 }
 
 impl Routes {
-    /// The eight routes.
+    /// The nine routes.
     pub fn new(alloc: Global) -> Result<Routes, NoMemory> {
         match desk_router(alloc) {
             Ok(router) => Ok(Routes { router }),

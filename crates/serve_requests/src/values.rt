@@ -19,6 +19,12 @@ pub fn spent_value(alloc: Global, amount: u64) -> Result<Value, AllocError>
     json!(in alloc; {"spent": amount})
 }
 
+pub fn health_value(alloc: Global, last: u32) -> Result<Value, AllocError>
+    ensures { IfOk result (λ v. view v ≡ object (member (codes "last_day") (number (unsigned last)) no_members)) }
+{
+    json!(in alloc; {"last_day": last})
+}
+
 pub fn passed_value(alloc: Global, last: u32) -> Result<Value, AllocError>
     ensures { IfOk result (λ v. view v ≡ object
         (member (codes "error") (string (codes "passed"))

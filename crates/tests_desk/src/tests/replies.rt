@@ -4,8 +4,8 @@ use keep_office::DayRecord;
 use road_digest::Digest;
 use road_time::{NoMemory, SpentRow};
 use serve_requests::{
-    day_body, days_body, differs_body, error_body, imported_body, live_body, no_memory_text,
-    passed_body, refused_body, reply_text, spent_body, total_body, vehicle_body,
+    day_body, days_body, differs_body, error_body, health_body, imported_body, live_body,
+    no_memory_text, passed_body, refused_body, reply_text, spent_body, total_body, vehicle_body,
 };
 use tuples_text::Cause;
 
@@ -105,6 +105,7 @@ fn bodies(rt: HostRuntime) -> Result<(), NoMemory> {
     );
     assert!(rt; is(refused_body(rt.alloc(), 3, &late)?, refused));
     assert!(rt; is(spent_body(rt.alloc(), 2)?, "{\"spent\":2}"));
+    assert!(rt; is(health_body(rt.alloc(), 100)?, "{\"last_day\":100}"));
     assert!(rt; is(live_body(rt.alloc(), 56, 2, 100)?, live));
     assert!(rt; is(total_body(rt.alloc(), 56, 100, 2)?, total));
     Ok(())

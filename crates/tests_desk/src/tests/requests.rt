@@ -18,6 +18,7 @@ enum Came {
     Vehicle(u32, u32, u32),
     Days,
     Page,
+    Health,
     Answers(u32, u64),
     Ended(SessionEnd),
 }
@@ -32,6 +33,7 @@ fn came_of(read: &Result<Asked, SessionEnd>) -> Came {
         Ok(Asked::Vehicle { vid, from, to }) => Came::Vehicle(*vid, *from, *to),
         Ok(Asked::Days) => Came::Days,
         Ok(Asked::Page) => Came::Page,
+        Ok(Asked::Health) => Came::Health,
         Ok(Asked::Answers { day, length, .. }) => Came::Answers(*day, *length),
         Err(end) => Came::Ended(*end),
     }

@@ -1,5 +1,4 @@
-use Rattle.std.proofs.Common.{◌≡◌, ◌≤◌, ◌+◌, ◌⊎◌, Some, ap, sym, subst, ◌∙◌, arith}
-use Rattle.day_import.specs.declared.outcomes.Outcome.TheVariants.{KeeperFault}
+use Rattle.std.proofs.Common.{◌≡◌, ◌⊎◌, Some, ap, sym, subst, ◌∙◌, arith}
 use Rattle.road_io.specs.Faults.{Rose}
 use Rattle.serve_desk.specs.History.{told_at, GoesOn}
 use Rattle.serve_desk.specs.Imports.{Imports}

@@ -29,6 +29,18 @@ returns-in-Spent-clause-shared g c =
     (g.L.Link.room a.new.link)) a.result)
     (sym c.in-Spent.is) (a.ensures.shared, a.ensures.some, a.ensures.unread, refl)
 
+pub returns-in-Health-clause-shared : goal.returns-in-Health-clause-shared
+returns-in-Health-clause-shared g c =
+    let l = c.args.link.now in
+    let s = seated c.args.reader.now c.args.place.now.seen.log in
+    let a = c.share_health in
+    subst (λ asked. AnswersShared g.K.Keeper.told g.K.Keeper.faults g.K.Keeper.refuses g.C.Crew.exact
+    c.args.work.now.limits asked s s
+    (wire_of (g.L.Link.left l) (g.L.Link.plan l) (g.L.Link.written l) (g.L.Link.room l))
+    (wire_of (g.L.Link.left a.new.link) (g.L.Link.plan a.new.link) (g.L.Link.written a.new.link)
+    (g.L.Link.room a.new.link)) a.result)
+    (sym c.in-Health.is) (a.ensures.shared, a.ensures.some, a.ensures.unread, refl)
+
 pub returns-in-Vehicle-clause-shared : goal.returns-in-Vehicle-clause-shared
 returns-in-Vehicle-clause-shared g c =
     let l = c.args.link.now in
@@ -124,3 +136,6 @@ returns-in-Page-clause-follows g c = stays _
 
 pub returns-in-Answers-clause-follows : goal.returns-in-Answers-clause-follows
 returns-in-Answers-clause-follows g c = stays _
+
+pub returns-in-Health-clause-follows : goal.returns-in-Health-clause-follows
+returns-in-Health-clause-follows g c = stays _

@@ -113,11 +113,12 @@ fn a_keeper_that_fails_is_told(rt: HostRuntime) -> Result<(), NoMemory> {
 }
 
 /// What is asked of what is kept, each by its first call of the keeper.
-pub const KEPT: [&[u8]; 4] = [
+pub const KEPT: [&[u8]; 5] = [
     b"GET /days/104 HTTP/1.1\r\n\r\n",
     b"GET /spent/104/5/177 HTTP/1.1\r\n\r\n",
     b"GET /vehicles/177/101/104 HTTP/1.1\r\n\r\n",
     b"GET /days HTTP/1.1\r\n\r\n",
+    b"GET /health HTTP/1.1\r\n\r\n",
 ];
 
 /// A GET of what is kept is answered with 503 where the keeper fails, and so is one of all days at its second call.

@@ -12,7 +12,13 @@ pub struct Row {
 }
 
 /// The worked rows of requests, in the order in which a desk is asked them that kept nothing before.
-pub const ROWS: [Row; 23] = [
+pub const ROWS: [Row; 26] = [
+    Row {
+        request: b"GET /health HTTP/1.1\r\n\r\n",
+        end: SessionEnd::Answered(200),
+        status: "200 OK",
+        body: "{\"last_day\":0}",
+    },
     Row {
         request: b"GET /days/100 HTTP/1.1\r\n\r\n",
         end: SessionEnd::Answered(404),
@@ -151,6 +157,18 @@ pub const ROWS: [Row; 23] = [
             \"digest\":\"e3b0c44298fc1c149afbf4c8996fb92427ae41e4649b934ca495991b7852b855\",\"notices\":0,\
             \"notices_digest\":\"e3b0c44298fc1c149afbf4c8996fb92427ae41e4649b934ca495991b7852b855\",\
             \"tariffs\":\"e3b0c44298fc1c149afbf4c8996fb92427ae41e4649b934ca495991b7852b855\",\"total\":0,\"tuples\":0}",
+    },
+    Row {
+        request: b"GET /health HTTP/1.1\r\n\r\n",
+        end: SessionEnd::Answered(200),
+        status: "200 OK",
+        body: "{\"last_day\":100}",
+    },
+    Row {
+        request: b"POST /health HTTP/1.1\r\nContent-Length: 0\r\n\r\n",
+        end: SessionEnd::Answered(405),
+        status: "405 Method Not Allowed",
+        body: "{\"error\":\"method\"}",
     },
     Row {
         request: b"GET /spent/100/0/100 HTTP/1.1\r\n\r\n",

@@ -31,7 +31,7 @@ const TOO_LONG: &[u8] =
         Connection: close\r\n\r\n{\"error\":\"too long\"}";
 
 /// Requests that are read, and what they ask.
-pub const ASKED: [(&[u8], Came); 37] = [
+pub const ASKED: [(&[u8], Came); 39] = [
     (b"GET /days/100 HTTP/1.1\r\n\r\n", Came::Day(100)),
     (b"GET /days/100 HTTP/1.0\n\n", Came::Day(100)),
     (b"\r\n\r\nGET /days/100 HTTP/1.1\r\n\r\n", Came::Day(100)),
@@ -110,6 +110,8 @@ pub const ASKED: [(&[u8], Came); 37] = [
         b"GET / HTTP/1.1\r\nHost: 127.0.0.1:8080\r\nConnection: keep-alive\r\n\r\n",
         Came::Page,
     ),
+    (b"GET /health HTTP/1.1\r\n\r\n", Came::Health),
+    (b"GET /health?of=/live HTTP/1.0\n\n", Came::Health),
     (
         b"POST /answers/100 HTTP/1.1\r\nContent-Length: 0\r\n\r\n",
         Came::Answers(100, 0),
@@ -216,6 +218,8 @@ pub const REFUSED: [Refused; 7] = [
             b"GET /live/2147483648 HTTP/1.1\r\n\r\n",
             b"GET /live/9999999999 HTTP/1.1\r\n\r\n",
             b"GET /LIVE HTTP/1.1\r\n\r\n",
+            b"GET /health/ HTTP/1.1\r\n\r\n",
+            b"GET /healthy HTTP/1.1\r\n\r\n",
             b"GET /vehicles HTTP/1.1\r\n\r\n",
             b"GET /vehicles/100 HTTP/1.1\r\n\r\n",
             b"GET /vehicles/100/1 HTTP/1.1\r\n\r\n",

@@ -31,6 +31,19 @@ returns-in-Spent-clause-answers g c = λ o told.
     (g.L.Link.room a.new.link)) a.result)
     (sym c.in-Spent.is) ((a.ensures.told o told, refl, a.ensures.unread), a.ensures.sent o told)
 
+pub returns-in-Health-clause-answers : goal.returns-in-Health-clause-answers
+returns-in-Health-clause-answers g c = λ o told.
+    let s = c.args.self.now in
+    let l = c.args.link.now in
+    let a = c.answer_health in
+    subst (λ asked. AnswersKept g.K.Keeper.refuses g.C.Crew.exact asked s.limits o
+    (state_of (g.K.Keeper.told s.keeper) (g.K.Keeper.faults s.keeper) s.writer.posted)
+    (state_of (g.K.Keeper.told a.new.keeper) (g.K.Keeper.faults a.new.keeper) s.writer.posted)
+    (wire_of (g.L.Link.left l) (g.L.Link.plan l) (g.L.Link.written l) (g.L.Link.room l))
+    (wire_of (g.L.Link.left a.new.link) (g.L.Link.plan a.new.link) (g.L.Link.written a.new.link)
+    (g.L.Link.room a.new.link)) a.result)
+    (sym c.in-Health.is) ((a.ensures.told o told, refl, a.ensures.unread), a.ensures.sent o told)
+
 pub returns-in-Import-clause-answers : goal.returns-in-Import-clause-answers
 returns-in-Import-clause-answers g c = λ o told.
     let s = c.args.self.now in

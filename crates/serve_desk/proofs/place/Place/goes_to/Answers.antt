@@ -1,4 +1,4 @@
-use Rattle.std.proofs.Common.{◌≡◌, ◌≤◌, length, ap, subst, arith}
+use Rattle.std.proofs.Common.{◌≤◌, length, ap, subst, arith}
 use mathlib.Core.List.{IsPrefix}
 use Rattle.serve_desk.proofs.HistoryLaws.{longer}
 use Rattle.serve_desk.proofs.place.Place.goes_to.Goals as goal
