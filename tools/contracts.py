@@ -176,8 +176,9 @@ def index():
                 at = f"{anchor}-{taken[anchor]}" if taken[anchor] else anchor
                 found.append((call.name.lower(), f"| [`{full(call)}`](../crates/{name}/CONTRACTS.md#{at}) | `{name}` "
                                                  f"| {len(call.clauses)} | {kinds[kind_of(name, call)]} |"))
-    head = ["# Calls", "", "All public calls that have clauses, by their names; written by `tools/contracts.py`. *Ships* means that one",
-            "of the two programs reaches the call, as far as names in the code tell.", "",
+    head = ["# Calls", "", "All public calls of the libraries and the programs that have clauses, in the order of the names behind `::`; written",
+            "by `tools/contracts.py`. *Ships* means that one of the two programs reaches the call, as far as names in the code",
+            "tell.", "",
             "| Call | Crate | Clauses | |", "|---|---|---|---|"]
     return "\n".join([*head, *(row for _, row in sorted(found))]) + "\n"
 
