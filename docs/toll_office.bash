@@ -31,6 +31,7 @@ _toll_office() {
         generate) words="--vehicles --minutes --xways --crashes" ;;
         rehearse) words="--vehicles --minutes --xways --crashes --late --workers --turns --backlog" ;;
         esac
+        words+=" --wait"
     fi
     _toll_offer "$words"
 }

@@ -5,9 +5,10 @@
 
 Looked at are README, CHANGELOG and docs. A link must lead to a file of the repository. A path in backticks that begins with
 `crates/`, `docs/` or one of the rooms (`bench/`, `tools/`, `trials/`, `examples/`, `scripts/`) must be there. The code that
-README and PROOF show must stand in the file that they name, and the tables and words of FORMATS in the definitions. No line but
-of a table, a picture or a block is longer than 128 characters. The script ends with status 1 if anything is wrong. It proves
-nothing and runs no program; trials/try_docs.py does. `.ci/run --documents` runs the other checks too.
+README and PROOF show must stand in the file that they name, and the tables and words of FORMATS in the definitions; FORMATS must
+have each cause of a refusal and of a keeper fault, HTTP each path. No line but of a table, a picture or a block is longer than 128 characters.
+The script ends with status 1 if anything is wrong. It proves nothing and runs no program; trials/try_docs.py does.
+`.ci/run --documents` runs the other checks too.
 """
 import re
 import sys
@@ -49,8 +50,25 @@ def words_missing():
     return [f"docs/FORMATS.md: no {word} in {path}" for word, path in named if not re.search(rf"\b{word}\b", (TOP / path).read_text())]
 
 
+def causes_missing():
+    """The causes of refusals and of keeper faults that FORMATS has not, by what their texts begin with."""
+    said, wrong = (TOP / "docs/FORMATS.md").read_text(), []
+    for path, form in (("crates/keep_files/src/cause.rt", r'#\[error\("([^"{]+)'), ("crates/tuples_text/src/cause.rt", r'"([a-z-]+)[ "]')):
+        texts = {it.rstrip() for it in re.findall(form, (TOP / path).read_text())}
+        wrong += [f"docs/FORMATS.md: no cause {it} of {path}" for it in sorted(texts) if f"`{it}" not in said]
+    return wrong
+
+
+def routes_missing():
+    """The routes of the server that HTTP has not."""
+    routes = re.findall(r'insert\("([^"]+)"', (TOP / "crates/serve_requests/src/routing.rt").read_text())
+    said = (TOP / "docs/HTTP.md").read_text()
+    return [f"docs/HTTP.md: no {it}" for it in routes if f"| `{it}` |" not in said]
+
+
 def main():
     wrong = shown("README.md") + shown("docs/PROOF.md") + tables_differ() + words_missing()
+    wrong += causes_missing() + routes_missing()
     for page in [*PAGES, TOP / "CHANGELOG.md"]:
         where, code = page.relative_to(TOP), False
         text = page.read_text()

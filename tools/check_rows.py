@@ -1,5 +1,5 @@
 #!/usr/bin/env python3
-"""Looks whether each row of docs/ROWS.md is in a test, whether each test is named, and whether an unproved program agrees.
+"""Looks whether each row of the files ROWS.md is in a test, whether each test is named, and whether an unproved program agrees.
 
     python3 tools/check_rows.py [--list]
 
@@ -16,7 +16,7 @@ import subprocess
 import sys
 import tempfile
 
-from rows import COMMANDS, INDEX, PAGE, TOP, Places, rows
+from rows import COMMANDS, PAGES, TOP, Places, rows
 
 sys.path.append(str((TOP / COMMANDS).parent))
 from rows_of_commands import TABLES
@@ -24,14 +24,14 @@ from rows_of_commands import TABLES
 
 def named(places):
     """What the page names and is not there."""
-    wrong, part = [], ""
+    wrong = []
     there = {it for text in places.every.values() for it in re.findall(r"\w+", text)} | set(places.printed)
     for at, _, cells, _ in rows():
         for word in re.findall(r"`(\w+)`", cells.get("Has it", "")):
             if word not in there and not (TOP / "crates" / word).is_dir():
-                wrong.append(f"docs/ROWS.md:{at}: no {word}")
-    for at, line in enumerate(PAGE.read_text().splitlines(), 1):
-        part = line[3:] if line.startswith("## ") else part
+                wrong.append(f"{at}: no {word}")
+    lines = [(f"{page.relative_to(TOP)}:{at}", line) for page in PAGES for at, line in enumerate(page.read_text().splitlines(), 1)]
+    for at, line in lines:
         has = line.rsplit(" | ", 1)[-1] if line.startswith("|") else line
         for word in re.findall(r"`([\w/.]+)`", has):
             if "/" in word and re.match(r"(crates|docs|bench|tools|trials|examples|scripts)/", word):
@@ -41,11 +41,11 @@ def named(places):
             else:
                 good = True
             if not good:
-                wrong.append(f"docs/ROWS.md:{at}: no {word}")
+                wrong.append(f"{at}: no {word}")
         for name, quoted, crate in re.findall(r'(?:`(\w+)`|"([^"]+)") in `(\w+)`', has):
             texts = [text for it, text in places.every.items() if it.startswith(f"crates/{crate}/")]
             if texts and not any((name or quoted).lower() in text.lower() for text in texts):
-                wrong.append(f"docs/ROWS.md:{at}: {name or quoted} is not in {crate}")
+                wrong.append(f"{at}: {name or quoted} is not in {crate}")
     return wrong
 
 
@@ -88,7 +88,7 @@ def differing():
             ran = subprocess.run([program], input=given[0], text=True, capture_output=True, check=True)
             found = ran.stdout.split()[given[1]:]
             if found != wanted and not ("at the end" in out and wanted and found[-len(wanted):] == wanted):
-                wrong.append(f"docs/ROWS.md:{at}: examples/plain.c gives {found}")
+                wrong.append(f"{at}: examples/plain.c gives {found}")
     return asked, wrong
 
 
@@ -99,15 +99,13 @@ def main():
         count += 1
         have.update(found)
         if not found:
-            wrong.append(f"docs/ROWS.md:{at}: {part}: no test has {name}")
+            wrong.append(f"{at}: {part}: no test has {name}")
         if "--list" in sys.argv[1:]:
             print(f"{at}: {part}: {name}", *(f"    {where} {of}" for where, of in found), sep="\n")
     tests = [(where, name) for where, names in places.tests.items() for name in names]
-    wrong += [f"{where}: {name}: docs/ROWS.md has no row of it" for where, name in tests if (where, name) not in have]
+    wrong += [f"{where}: {name}: no ROWS.md has a row of it" for where, name in tests if (where, name) not in have]
     names = [name for table in TABLES.values() for name in table()]
     wrong += [f"{COMMANDS}: two rows are {name!r}" for name in sorted({it for it in names if names.count(it) > 1})]
-    if f"## {INDEX}" not in PAGE.read_text():
-        wrong.append(f"docs/ROWS.md: no part {INDEX}")
     asked, others = differing()
     wrong += others
     print(*wrong, sep="\n", end="\n" if wrong else "")

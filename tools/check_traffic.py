@@ -1,9 +1,9 @@
 #!/usr/bin/env python3
-"""Makes generated files by docs/TRAFFIC.md alone, and compares them with the rows of docs/ROWS.md that have their marks.
+"""Makes generated files by docs/TRAFFIC.md alone, and compares them with the rows of crates/tests_road/ROWS.md by their marks.
 
     python3 tools/check_traffic.py [SEED VEHICLES MINUTES XWAYS CRASHES]
 
-With a plan it writes the plan's file, as `toll_office generate` does. Without one it makes each plan that ROWS names, and ends with
+With a plan it writes the plan's file, as `toll_office generate` does. Without one it makes each plan of those rows, and ends with
 status 1 if the lines, the bytes or the mark (FNV-1a of 64 bits) are others.
 """
 import pathlib
@@ -11,6 +11,7 @@ import re
 import sys
 
 TOP = pathlib.Path(__file__).resolve().parent.parent
+PLANS = TOP / "crates/tests_road/ROWS.md"
 BITS = (1 << 64) - 1
 STEP = 6364136223846793005
 
@@ -91,7 +92,7 @@ def main():
     if len(sys.argv) == 6:
         sys.stdout.write(made(*map(int, sys.argv[1:])))
         return
-    rows = re.findall(r"plan ([^|:]*?)(?::[^|]*)? \| ([\d,]+) lines, ([\d,]+) bytes, mark (\d+) \|", (TOP / "docs/ROWS.md").read_text())
+    rows = re.findall(r"plan ([^|:]*?)(?::[^|]*)? \| ([\d,]+) lines, ([\d,]+) bytes, mark (\d+) \|", PLANS.read_text())
     wrong = 0
     for plan, *wanted in rows:
         text = made(*map(number, plan.split(", ")))
@@ -99,7 +100,7 @@ def main():
         if found != [int(it.replace(",", "")) for it in wanted]:
             wrong += 1
             print(f"plan {plan}: found {found}, wanted {wanted}")
-    print(f"{len(rows)} plans of docs/ROWS.md made by docs/TRAFFIC.md, {wrong} wrong")
+    print(f"{len(rows)} plans of crates/tests_road/ROWS.md made by docs/TRAFFIC.md, {wrong} wrong")
     sys.exit(1 if wrong or not rows else 0)
 
 

@@ -1,10 +1,11 @@
 #!/usr/bin/env python3
-"""Compares the words of the documents with the grammar: the manual pages, the completion for bash, README and FORMATS.
+"""Compares the words of the documents with the grammar: the manual pages, the completion of each shell, README and FORMATS.
 
     python3 tools/check_words.py
 
 The grammar is the table in `crates/office_words/specs/Table.antt`, beside it what `crates/office_ends/specs/Words.antt` takes,
-and, of the server, `crates/serve_top/specs/App.antt`. The script ends with status 1 and names each word that a page lacks or has
+the option of each command that `crates/office_words/specs/Waits.antt` takes off, and, of the server,
+`crates/serve_top/specs/App.antt`. The script ends with status 1 and names each word that a page lacks or has
 too much. If groff is there, the manual pages must give it no warning.
 """
 import pathlib
@@ -44,6 +45,11 @@ def office():
     return {**forms, beside.group(1): (["base"], sorted(set(re.findall(r'codes "--(\w+)"', words))))}
 
 
+def waits():
+    """The options that each command takes."""
+    return sorted(set(re.findall(r'codes "--(\w+)"', text("crates/office_words/specs/Waits.antt"))))
+
+
 def server():
     """The options of the server."""
     return re.findall(r'option_rule \(codes "(\w+)"\)', text("crates/serve_top/specs/App.antt"))
@@ -53,6 +59,15 @@ def completed(*words):
     """What the completion offers behind these words."""
     ran = subprocess.run(["bash", "-c", ASK, "bash", *words], cwd=TOP, text=True, capture_output=True, check=True)
     return ran.stdout.split()
+
+
+def offered(page):
+    """What the completion of another shell offers as a command, behind each command, and to the server: by its text."""
+    said = text(page)
+    rows = re.findall(r'^ +([\w |]+)\) options="(.*)" ;;|^ +case ([\w ]+)\n +set words (.*)', said, re.M)
+    behind = {it: (more or other).split() for names, more, others, other in rows for it in re.findall(r"\w+", names or others)}
+    first = re.search(r'(?:CURRENT == 2 \)\); then\n +options="|-eq 1\n +set words )([\w ]+)', said)[1].split()
+    return first, behind, re.findall(r"--\w+", re.search(r"toll_serve(?: \]\];|' \$given\[1\]).*\n.*", said)[0])
 
 
 def plain(page):
@@ -74,11 +89,12 @@ def main():
     head = page.partition(".SH DESCRIPTION")[0]
     synopsis = {it.split()[1]: it for it in re.findall(r"^toll_office \w+.*$", head, re.M)}
     same("toll_office.1: synopsis", synopsis, forms)
-    every = set()
+    of_each = waits()
+    every = set(of_each)
     for name, (places, options) in forms.items():
         every |= set(options)
         words = [f"--{it}" for it in options]
-        same(f"completion: {name}", completed("toll_office", name, ""), words)
+        same(f"completion: {name}", completed("toll_office", name, ""), words + [f"--{it}" for it in of_each])
         said = synopsis.get(name, "")
         if "options of" not in said:
             same(f"toll_office.1: {name}", re.findall(r"--[\w-]+", said), words)
@@ -95,6 +111,12 @@ def main():
                 wrong.append(f"{where}: no --{name}")
     options = [f"--{it}" for it in server()]
     same("completion: toll_serve", completed("toll_serve", ""), options)
+    for shell in ("docs/toll_office.zsh", "docs/toll_office.fish"):
+        first, behind, serving = offered(shell)
+        same(f"{shell}: commands", first, forms)
+        same(f"{shell}: toll_serve", serving, options)
+        for name, (_, own) in forms.items():
+            same(f"{shell}: {name}", behind.get(name, []), [f"--{it}" for it in own])
     same("toll_serve.1", set(re.findall(r"--\w+", plain("docs/toll_serve.1"))), options)
     same("HTTP.md", set(re.findall(r"`(--\w+)`", text("docs/HTTP.md"))), options)
     if shutil.which("groff"):

@@ -8,8 +8,9 @@
 
 `rt ci` works on as many crates at a time as there are processors, if there are 7 GB of free memory for each; RT_JOBS sets
 another number. A check says how long it took; one that fails shows what it printed, and fails the gate. A trial whose tools are
-not on this machine is passed over, and said so. Behind `rt ci` stand lines `figure CRATE WHAT SECONDS MB`, the processor time and
-the memory of each crate, of which tools/figures.py makes a table. The last line is `N passed, M failed`, of all together.
+not on this machine is passed over, and said so. Behind `rt ci`, also one that is ended by SIGTERM, stand lines `figure CRATE WHAT
+SECONDS MB`, the processor time and the memory of each crate, of which tools/figures.py makes a table. The last line is `N passed,
+M failed`, of all together.
 """
 import argparse
 import os
@@ -29,7 +30,7 @@ A_JOB = 7.0
 LIMIT = 600
 OFFICE, SERVE = "crates/toll_office/out/toll_office", "crates/toll_serve/out/toll_serve"
 CHECKS = ["tools/write_docs.py --check", "tools/pictures.py --check", "tools/check_docs.py", "tools/check_words.py",
-          "tools/check_rows.py", "tools/check_traffic.py", "tools/check_clauses.py", "tools/check_heads.py",
+          "tools/check_rows.py", "tools/check_traffic.py", "tools/contracts.py --check", "tools/check_heads.py",
           "tools/edits.py --stand", "trials/try_completion.py"]
 # each with the tools that it needs
 TRIALS = [(f"trials/try_commands.py {OFFICE}", ["cc"]), (f"trials/try_docs.py {OFFICE} {SERVE}", ["curl"]),
@@ -123,14 +124,16 @@ def rt_ci():
         signal.signal(signal.SIGTERM, lambda number, _: (ran.terminate(), sys.exit(128 + number)))
         figures = Figures(ran.pid)
         figures.start()
-        for line in ran.stdout:
-            told = SUMMARY.match(line)
-            counts = (int(told[1]), int(told[2])) if told else counts
-            say(f"rt ci: {line.rstrip()}" if told else line.rstrip("\n"))
-    figures.ended.set()
-    figures.join()
-    for line in figures.lines():
-        say(line)
+        try:
+            for line in ran.stdout:
+                told = SUMMARY.match(line)
+                counts = (int(told[1]), int(told[2])) if told else counts
+                say(f"rt ci: {line.rstrip()}" if told else line.rstrip("\n"))
+        finally:
+            figures.ended.set()
+            figures.join()
+            for line in figures.lines():
+                say(line)
     if ran.returncode and not counts[1]:
         say(f"FAILED: rt ci ended with status {ran.returncode}")
         return counts[0], 1

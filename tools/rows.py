@@ -1,7 +1,8 @@
 #!/usr/bin/env python3
-"""The rows of docs/ROWS.md and the tests of the crates, as tools/check_rows.py and tools/write_docs.py read them.
+"""The rows of the files ROWS.md and the tests of the crates, as tools/check_rows.py reads them. It prints the tests by their
+files, each with the parts of those files that have its rows.
 
-A row is a line of a table, but for the index of tests. Where it stands is said in its column "Has it" or "Line", else in the text
+A row is a line of a table. Where it stands is said in its column "Has it" or "Line", else in the text
 of its part. What is said names tests (functions behind `#[test]`), tables of rows of the commands (functions of
 trials/rows_of_commands.py), theorems with their file, constants or functions of a program that is a test, a line that such a
 program must print, or a row in quotes that stands in a file of tests; "the same" is what was said of the row above.
@@ -10,8 +11,7 @@ import pathlib
 import re
 
 TOP = pathlib.Path(__file__).resolve().parent.parent
-PAGE = TOP / "docs/ROWS.md"
-INDEX = "The tests"
+PAGES = [TOP / "trials/ROWS.md", *sorted(TOP.glob("crates/*/ROWS.md"))]
 COMMANDS = "trials/rows_of_commands.py"
 TEST = r"#\[test[^\]]*\]\s*(?:#\[[^\]]*\]\s*)*(?:pub )?fn (\w+)"
 
@@ -32,20 +32,22 @@ def cells_of(line):
 
 
 def rows():
-    """Each row: its line, its part, its cells by their columns, and the text of its part."""
-    texts, found, part, columns = {}, [], "", None
-    for at, line in enumerate(PAGE.read_text().splitlines(), 1):
-        if line.startswith("## "):
-            part, columns = line[3:], None
-        if line.startswith("|"):
-            cells = cells_of(line)
-            if columns is None:
-                columns = cells
-            elif not set(line) <= set("|- ") and part != INDEX:
-                found.append((at, part, dict(zip(columns, cells))))
-        else:
-            columns = None
-            texts.setdefault(part, []).append(line)
+    """Each row: its page and line, its part, its cells by their columns, and the text of its part."""
+    texts, found = {}, []
+    for page in PAGES:
+        part, columns = "", None
+        for at, line in enumerate(page.read_text().splitlines(), 1):
+            if line.startswith("## "):
+                part, columns = line[3:], None
+            if line.startswith("|"):
+                cells = cells_of(line)
+                if columns is None:
+                    columns = cells
+                elif not set(line) <= set("|- "):
+                    found.append((f"{page.relative_to(TOP)}:{at}", part, dict(zip(columns, cells))))
+            else:
+                columns = None
+                texts.setdefault(part, []).append(line)
     return [(at, part, cells, " ".join(texts.get(part, []))) for at, part, cells in found]
 
 
@@ -123,7 +125,7 @@ class Places:
 
 
 def index():
-    """The tests by their files, each file with the parts of the page whose rows name it."""
+    """The tests by their files, each file with the parts whose rows name it."""
     places, parts = Places(), {}
     for _, part, _, found in places.of_rows():
         for where, name in found:

@@ -1,7 +1,7 @@
 #!/usr/bin/env python3
 """Writes what the documents have from other files: the kits that the gate passed with from the file KIT, the trusted libraries
 and the table of crates from crates.txt and the crates' own first sentences, the table of speed from bench/speed.csv, the counts
-of runs that want memory from bench/memory.csv, and the index of tests.
+of runs that want memory from bench/memory.csv.
 
     python3 tools/write_docs.py [--check]
 
@@ -15,10 +15,8 @@ import re
 import sys
 import textwrap
 
-from rows import index
-
 TOP = pathlib.Path(__file__).resolve().parent.parent
-PAGES = [TOP / "README.md", *sorted((TOP / "docs").glob("*.md"))]
+PAGES = [TOP / "README.md", *sorted((TOP / "docs").glob("*.md")), TOP / "crates/tests_office/ROWS.md"]
 
 
 def crates():
@@ -132,7 +130,7 @@ def memory_counts():
 
 
 PIECES = {"trusted libraries": trusted, "crates": crate_table, "speed": speed_table, "figure": speed_figure,
-          "memory": memory_counts, "tests": index}
+          "memory": memory_counts}
 
 
 def kits():

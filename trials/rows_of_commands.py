@@ -113,7 +113,8 @@ def lines_and_their_answers():
 def words_and_their_ends():
     """What words say to one report, whose notice stands in the folder."""
     good = ["answers 100", "answers --late=5 100", "answers --late 5 100", "answers --late=5 -- 100", "answers 0000100",
-            "answers 100 --workers 2 --turns=0"]
+            "answers 100 --workers 2 --turns=0", "answers 100 --wait 3600", "answers --wait=0 100 --late 5",
+            "--wait 007 answers 100"]
     rows = {words: (words.split(), ANSWERED, 0) for words in good}
     rows["validate 100 --late=120"] = ("validate 100 --late=120".split(), "# agree notices 1\n", 0)
     rows["accidents --late 0"] = ("accidents --late 0".split(), "", 0)
@@ -121,7 +122,9 @@ def words_and_their_ends():
            "answers 100 --late -1", "answers 100 --late=121", "answers 100 --late 1 --late 1", "answers 100 --workers 65",
            "answers 100 --turns=-1", "answers -", "answers -- -5", "answers +100", "validate", "accidents 100", "import",
            "import 69", "import 100 --late 121", "past 69", "generate", "rehearse 1 2", "tariff 0 50 101 2",
-           "tariff 256 50 40 2", "vehicle 7 9 8", "--help", "help"]
+           "tariff 256 50 40 2", "vehicle 7 9 8", "--help", "help", "--wait", "--wait 5", "answers 100 --wait",
+           "answers 100 --wait 3601", "answers 100 --wait=", "answers 100 --wait -1", "answers 100 --wait 1 --wait 1",
+           "answers -- 100 --wait 1", "answers 100 --late --wait 1", "answers 100 --waits 1", "renew 100 --wait x"]
     rows |= {words: (words.split(), "# words\n", 1) for words in bad}
     rows |= {"no word": ([], "# words\n", 1), "an empty word": ([""], "# words\n", 1)}
     return {name: [Run(tuple(words), text, status, ONE, NOTICE)] for name, (words, text, status) in rows.items()}

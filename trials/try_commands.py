@@ -53,7 +53,7 @@ def after(one, other):
 
 
 def differences(wanted, found, most):
-    """The first differences of right notices and lines, as docs/GUARANTEES.md says."""
+    """The first differences of right notices and lines, as docs/FORMATS.md says."""
     told, i, k = [], 0, 0
     while len(told) < most and (i < len(wanted) or k < len(found)):
         right = wanted[i] if i < len(wanted) else None

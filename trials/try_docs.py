@@ -5,12 +5,13 @@
 
 OFFICE is the executable toll_office, SERVE is toll_serve; without it what needs the server is passed over. Each page is run by
 one shell, in a copy of the repository's example data, documents, scripts and programs, which are found only where the page puts
-them on the path. A block ```console has lines `$ command`, each with the lines that it must print; in a block without a name a
-command may be followed by two blanks, `# ` and the one line that it must print, or by a text that says what it does. `..`
-stands for anything. What is run for a command between backticks, behind the blocks of its page, is said by INLINE below, which
-must name each. With --kit the copy is a clone, and the commands of the kit are run too, but for the gate: tools/unproved.py, and
-tools/build.py, which takes a minute if the kit has kept what it proves, and else up to an hour for each program. The script ends
-with status 1 if a command prints something else, if one whose text is not said ends with a status above 8, or if one is not named.
+them on the path. A block ```console has lines `$ command`, and `> ` where one goes on, each with the lines that it must print; in
+a block without a name a command may be followed by two blanks, `# ` and the one line that it must print, or by a text that says
+what it does. `..` stands for anything. What is run for a command between backticks, behind the blocks of its page, is said by
+INLINE below, which must name each. With --kit the copy is a clone, and the commands of the kit are run too, but for the gate:
+tools/unproved.py, and tools/build.py, which takes a minute if the kit has kept what it proves, and else up to an hour for each
+program. The script ends with status 1 if a command prints something else, if one whose text is not said ends with a status above
+8, or if one is not named.
 """
 import argparse
 import os
@@ -25,7 +26,8 @@ import threading
 
 from office import TOP, free_port
 
-PAGES = ["README.md", "docs/USE.md", "docs/HTTP.md", "docs/FORMATS.md", "docs/PROOF.md", "docs/RULES.md"]
+PAGES = ["README.md", "docs/USE.md", "docs/HTTP.md", *sorted(f"docs/{it.name}" for it in (TOP / "docs").glob("*.md")
+                                                           if it.name not in ("USE.md", "HTTP.md"))]
 MARK = "--- the end of a command ---"
 GATE = ".ci/run"
 FIRST = 'mkdir "$OLD/room" && cp "$OLD"/crates/example_office/data/*.csv "$OLD/room" && cd "$OLD/room"'
@@ -42,17 +44,25 @@ OFFICE = 'export PATH="$OLD/crates/toll_office/out:$PATH"'
 BEGIN = {
     "README.md": [(FIRST, ""), (OFFICE, "")],
     "docs/FORMATS.md": [(FIRST, ""), (OFFICE, "")],
+    "docs/EXAMPLES.md": [(OFFICE, ""), ('mkdir "$OLD/room" && cd "$OLD/room"', "")],
 }
 
 # what is run before a command that a page has only once, since its text says where the reader is by then
 BEFORE = {
     "python3 tools/unproved.py toll_office ../unproved": 'cd "$OLD"',
     'export PATH="$PWD/crates/toll_office/out:$PATH"': 'cd "$OLD"',
+    "python3 tools/places.py Command::Tariffs": 'cd "$SOURCE"',
 }
 
 # what is run for a command between backticks, and what that prints; none: it is a form, or stands in a block too
 INLINE = {
     "rt ci": None, "rt try": None, "rt run": None, "rt check": None, "rt doc": None,
+    "rt check --start": None, "rt check --only=": None, "rt check --only path::to::function": None, "rt lemma WORDS": None,
+    "rt try --test": None, "rt fmt": None, "rt ci NAME": None, "python3 tools/edits.py NAME": None, "tools/figures.py LOG": None,
+    "git show --stat": None,
+    # the gate runs these with --check
+    "python3 tools/check_words.py": None, "python3 tools/contracts.py": None, "tools/contracts.py --missing": None,
+    "tools/places.py Asked::Days": [('python3 "$SOURCE/tools/places.py" Asked::Days | head -n 1', "code: ..")],
     "rt version": [("rt version | grep -c rattle-kit-", "1")],
     "python3 tools/build.py toll_serve": [
         ('python3 "$OLD/tools/build.py" toll_serve | tail -n 2', "crates/toll_serve/out/toll_serve\nproved and built in .. minutes")],
@@ -121,6 +131,8 @@ def commands(page):
             for at, line in block:
                 if line.startswith("$ "):
                     found.append((at, line[2:], []))
+                elif line.startswith("> ") and not found[-1][2]:
+                    found[-1] = (found[-1][0], f"{found[-1][1]}\n{line[2:]}", [])
                 else:
                     found[-1][2].append(line)
         else:
@@ -226,10 +238,10 @@ def tried(page, name, given):
                 continue
             run += 1
             shell.run(BEFORE.get(command, ":"), 60)
-            text, status = shell.run(command.replace("8080", port), 14400 if needs_kit(command) else 300)
+            text, status = shell.run(re.sub(r"\b8080\b", port, command), 14400 if needs_kit(command) else 300)
             if given.loud:
                 print(f"{page.name}:{at}: {command}\n{text}")
-            if status > 8 if wanted is None else not fits(text, wanted.replace("8080", port)):
+            if status > 8 if wanted is None else not fits(text, re.sub(r"\b8080\b", port, wanted)):
                 wrong.append(f"{page.name}:{at}: {command}\n  wanted {wanted!r}\n  found  {text!r}, status {status}")
         shell.end()
     return run, wrong

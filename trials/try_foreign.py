@@ -115,7 +115,7 @@ def refused(program, folder, name, words, cause, **how):
     """A command ends with a fault, says this cause, and the file is what it was."""
     kept = pathlib.Path(folder) / "tolls.db"
     before = kept.read_bytes() if kept.is_file() else None
-    status, out, err = run(program, folder, words, COMMANDS.get(words, LINE), **how)
+    status, out, err = run(program, folder, words, COMMANDS.get(words.partition(" --wait")[0], LINE), **how)
     if status != 6 or not out.endswith("# keeper fault\n"):
         fail(f"{name}, {words}: status {status}, {out!r}")
     if err != f"toll_office: tolls.db: {cause}\n":
@@ -188,15 +188,29 @@ def in_use(program):
                     # the look below had the file just then
                     other = subprocess.Popen(words, cwd=folder, stdin=subprocess.PIPE, stdout=subprocess.DEVNULL)
                     time.sleep(0.2)
-                if run(program, folder, "tariffs", "")[0] == 6:
+                if run(program, folder, "tariffs --wait 0", "")[0] == 6:
                     break
                 time.sleep(0.05)
             for command in COMMANDS:
-                refused(program, folder, "in use", command, IN_USE)
+                refused(program, folder, "in use", f"{command} --wait 0", IN_USE)
+            begun = time.monotonic()
+            refused(program, folder, "in use", "tariff 0 50 40 5 --wait=1", IN_USE)
+            if not 1 <= time.monotonic() - begun < 10:
+                fail(f"a file in use: waited {time.monotonic() - begun:.1f} s and not 1")
+            waits = subprocess.Popen([program, "tariff", "0", "50", "40", "5", "--wait", "60"], cwd=folder,
+                                     stdout=subprocess.PIPE, stderr=subprocess.PIPE, text=True)
+            time.sleep(1)
+            if waits.poll() is not None:
+                fail(f"a file in use: a command that may wait 60 s ended, {waits.communicate()}")
         finally:
             other.kill()
             other.wait()
-    print(f"left alone: a file in use, by {len(COMMANDS)} commands")
+        said = waits.communicate(timeout=60)
+        if waits.returncode != 0 or said[1]:
+            fail(f"a file in use until then: status {waits.returncode}, {said}")
+        if run(program, folder, "tariffs", "")[1] != "0,50,40,5\n":
+            fail("a file in use until then: the tariff is not kept")
+    print(f"left alone: a file in use, by {len(COMMANDS)} commands, and put to once it was free")
 
 
 def read_only(program):

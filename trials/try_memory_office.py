@@ -8,7 +8,7 @@ is generated, its import, and an import whose input, output or database fails. A
 kept or nothing, and all where it ended as with ample memory; the same command in a clean run then ends well, with all kept. For
 each row it prints how many runs ended how, and after how many of those with 8 all was kept. With --step only each Nth allocation
 is tried. With --csv all rows are tried, each allocation, and the counts are written to that file, from which tools/write_docs.py
-has those of docs/ROWS.md (`--csv bench/memory.csv`). It wants a C compiler, and is quicker where TMPDIR is in memory.
+has those of crates/tests_office/ROWS.md (`--csv bench/memory.csv`). It wants a C compiler, and is quicker where TMPDIR is in memory.
 """
 import argparse
 import concurrent.futures

@@ -1,7 +1,7 @@
 #!/usr/bin/env python3
 """Cuts the power at each moment of the built programs' writing, and looks whether what is left is an office.
 
-    python3 trials/try_power.py SERVER OFFICE [--images 500]
+    python3 trials/try_power.py SERVER OFFICE [--images 600]
 
 SERVER is the executable toll_serve, OFFICE toll_office. Commands of the office and a server with three days run with a library
 (`trials/record_disk.c`, built by `cc`) that records each write, cut and sync of the kept file and its log, and each answer.
@@ -179,7 +179,7 @@ def main():
     parser = argparse.ArgumentParser(description=__doc__, formatter_class=argparse.RawDescriptionHelpFormatter)
     parser.add_argument("server")
     parser.add_argument("office")
-    parser.add_argument("--images", type=int, default=500)
+    parser.add_argument("--images", type=int, default=600)
     asked = parser.parse_args()
     server_program, office = os.path.realpath(asked.server), os.path.realpath(asked.office)
     with tempfile.TemporaryDirectory() as top:

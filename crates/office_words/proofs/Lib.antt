@@ -10,3 +10,4 @@ pub mod Spelling
 pub mod SpelledBack
 pub mod SpelledForms
 pub mod Steps
+pub mod WaitTaken

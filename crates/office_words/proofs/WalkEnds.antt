@@ -1,7 +1,7 @@
 -- The end of a subcommand's walk, and what is held on it, against what the grammar says.
 use Rattle.std.proofs.Common.{◌≡◌, ◌∙◌, ◌&&◌, ◌||◌, ◌+◌, ℕ, Bool, cond, not, true, false, refl, sym, ap, subst, List}
 use Rattle.std.proofs.Common.{[], ◌∷◌, ◌++◌, map, min, Option, Some, None, find, fold, option_map, option_and_then}
-use Rattle.std.proofs.Common.{bytes_eq, true≢false, append-nil}
+use Rattle.std.proofs.Common.{bytes_eq, append-nil}
 use Rattle.std.specs.List.{list_any, list_all}
 use Rattle.std.specs.Option.{option_map_or}
 use Rattle.std.proofs.lemmas.List.{map-append}

@@ -9,10 +9,12 @@ mod laws;
 mod numbers;
 mod reading;
 mod table;
+mod waits;
 mod words;
 
 pub use command::{Command, Comparison, DayRun, Recomputing, Size, WordFault};
 pub use laws::{spelling_law, words_law};
 pub use numbers::{needed, optional};
 pub use table::{option, place};
+pub use waits::{WordsLeft, wait_taken};
 pub use words::{fault_of, read_words};

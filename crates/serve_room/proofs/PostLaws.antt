@@ -1,14 +1,14 @@
 -- Laws of who leaves the room first.
-use Rattle.std.proofs.Common.{◌≡◌, ◌≢◌, slice_set, ◌⊎◌, inl, inr, ⊎_elim, ℕ, zero, suc, ◌≤◌, ◌<◌, ◌+◌, Bool, true, false, List, [], ◌∷◌}
+use Rattle.std.proofs.Common.{◌≡◌, ◌≢◌, slice_set, ◌⊎◌, inl, inr, ⊎_elim, ℕ, zero, suc, ◌<◌, ◌+◌, Bool, true, false, List, [], ◌∷◌}
 use Rattle.std.proofs.Common.{length, drop, slice_get, Option, Some, None, refl, sym, ap, subst, ◌∙◌, arith}
 use Rattle.std.proofs.lemmas.Bool.{cond-true, cond-false, false≢true}
-use Rattle.std.specs.Time.{instant_nanos}
 use Rattle.std.specs.declared.time.Instant.{Instant}
 use Rattle.road_time.proofs.EachLaws.{some_is, no_some}
 use Rattle.serve_room.specs.declared.seat.Seat.{Seat}
 use Rattle.serve_room.specs.declared.posts.Who.{Who}
 use Rattle.serve_room.specs.declared.posts.Kind.TheVariants.{Post, Read}
 use Rattle.serve_room.specs.Posts.{ends_line, line_of, kind_of, of_kind, is_meant, HasNone, OnlyOthersWait, NoneBefore, NoneBelow, Leaves, IsFirstBelow, IsFirst}
+use Rattle.serve_room.specs.Posts.{Precedes, one_of, meant_in}
 
 -- below the next number is a number or below it
 below_or_at : (k at : ℕ) → k < suc at → (k < at) ⊎ (k ≡ at)
@@ -33,10 +33,21 @@ none_on who seats at none here k other less is =
     ⊎_elim (λ (b : k < at). none k other b is)
     (λ (e : k ≡ at). here other (sym (ap (slice_get seats) e) ∙ is)) (below_or_at k at (omega (arith, less)))
 
--- the same of those that were accepted before a moment
+-- no moment comes behind itself
+precedes_itself : (last : Bool) (one : Instant) → Precedes last one one
+precedes_itself false one = omega arith
+precedes_itself true one = omega arith
+
+-- nor behind one that does not come behind another that it does not come behind
+precedes_on : (last : Bool) (one other more : Instant) → Precedes last one other → Precedes last other more →
+    Precedes last one more
+precedes_on false one other more a b = omega (arith, a, b)
+precedes_on true one other more a b = omega (arith, a, b)
+
+-- the same of those that go before one of a moment
 pub before_on : (who : Who) (seats : List (Option Seat)) (at : ℕ) (since : Instant) →
     NoneBefore who seats at since → ((seat : Seat) → slice_get seats at ≡ Some (Some seat) →
-    is_meant who seat ≡ true → instant_nanos since ≤ instant_nanos seat.since) →
+    is_meant who seat ≡ true → Precedes who.last since seat.since) →
     NoneBefore who seats (at + 1) since
 before_on who seats at since none here k other less is may =
     ⊎_elim (λ (b : k < at). none k other b is may)
@@ -59,10 +70,10 @@ stays who seats at (Some first) (seat, since, leaves) here = (
   },
 )
 
--- the first so far stays it, where who sits in the next place was not accepted before it
+-- the first so far stays it, where who sits in the next place does not go before it
 pub stays_before : (who : Who) (seats : List (Option Seat)) (at : ℕ) (first : ℕ × Instant) (next : Seat) →
     IsFirstBelow who seats at (Some first) → slice_get seats at ≡ Some (Some next) →
-    instant_nanos first.1 ≤ instant_nanos next.since → IsFirstBelow who seats (at + 1) (Some first)
+    Precedes who.last first.1 next.since → IsFirstBelow who seats (at + 1) (Some first)
 stays_before who seats at first next (seat, since, leaves) here later = (
   seat,
   since,
@@ -71,7 +82,7 @@ stays_before who seats at first next (seat, since, leaves) here later = (
     leaves = leaves.leaves;
     oldest = before_on who seats at seat.since leaves.oldest
         (λ other is may. rw (same_seat seats at at next other here is refl)
-        (subst (λ s. instant_nanos s ≤ instant_nanos next.since) since later));
+        (subst (λ s. Precedes who.last s next.since) since later));
   },
 )
 
@@ -87,14 +98,14 @@ begins who seats at next none here may = (
     leaves = may;
     oldest = before_on who seats at next.since
         (λ k other less is leaves. absurd (false≢true (sym (none k other less is) ∙ leaves)))
-        (λ other is leaves. rw (same_seat seats at at next other here is refl) (omega arith));
+        (λ other is leaves. rw (same_seat seats at at next other here is refl) (precedes_itself who.last next.since));
   },
 )
 
--- who sits in the next place is the first, where it was accepted before the first so far
+-- who sits in the next place is the first, where it goes before the first so far
 pub overtakes : (who : Who) (seats : List (Option Seat)) (at : ℕ) (first : ℕ × Instant) (next : Seat) →
     IsFirstBelow who seats at (Some first) → slice_get seats at ≡ Some (Some next) →
-    is_meant who next ≡ true → instant_nanos next.since ≤ instant_nanos first.1 →
+    is_meant who next ≡ true → Precedes who.last next.since first.1 →
     IsFirstBelow who seats (at + 1) (Some (at, next.since))
 overtakes who seats at first next (seat, since, leaves) here may earlier = (
   next,
@@ -103,13 +114,10 @@ overtakes who seats at first next (seat, since, leaves) here may earlier = (
     sits = here;
     leaves = may;
     oldest = before_on who seats at next.since
-        (λ k other less is may_too. omega (
-          arith,
-          leaves.oldest k other less is may_too,
-          earlier,
-          ap instant_nanos since,
-        ))
-        (λ other is leaves_too. rw (same_seat seats at at next other here is refl) (omega arith));
+        (λ k other less is may_too. precedes_on who.last next.since first.1 other.since earlier
+        (subst (λ s. Precedes who.last s other.since) (sym since) (leaves.oldest k other less is may_too)))
+        (λ other is leaves_too.
+        rw (same_seat seats at at next other here is refl) (precedes_itself who.last next.since));
   },
 )
 
@@ -170,3 +178,10 @@ set_there (s ∷ seats) zero zero new other = absurd (other refl)
 set_there (s ∷ seats) zero (suc k) new other = refl
 set_there (s ∷ seats) (suc at) zero new other = refl
 set_there (s ∷ seats) (suc at) (suc k) new other = set_there seats at k new (λ e. other (ap suc e))
+
+-- who sits in a place counts among those from it on
+pub counted_on : (who : Who) (seats : List (Option Seat)) (at : ℕ) (place : Option Seat) →
+    slice_get seats at ≡ Some place → meant_in who (drop at seats) ≡ one_of who place + meant_in who (drop (suc at) seats)
+counted_on who [] at place is = absurd (no_some place is)
+counted_on who (s ∷ seats) zero place is = ap (λ p. one_of who p + meant_in who seats) (some_is s place is)
+counted_on who (s ∷ seats) (suc at) place is = counted_on who seats at place is

@@ -2,6 +2,7 @@
 
 pub mod Addresses
 pub mod Fronts
+pub mod Giving
 pub mod Heads
 pub mod Judged
 pub mod Outsides

@@ -1,5 +1,5 @@
 -- Which connection leaves the room first, and which gives its seat.
-use Rattle.std.specs.Prelude.{◌≡◌, ◌≢◌, ◌≤◌, ◌<◌, ℕ, ◌==◌, eqb, Bool, true, false, ◌||◌, List, [], ◌∷◌, length}
+use Rattle.std.specs.Prelude.{◌≡◌, ◌≢◌, ◌≤◌, ◌<◌, ◌+◌, ℕ, ◌==◌, eqb, Bool, true, false, ◌||◌, List, [], ◌∷◌, length}
 use Rattle.std.specs.Prelude.{slice_get}
 use Rattle.std.specs.Prelude.{if◌then◌else◌, Option, Some, None}
 use Rattle.std.specs.List.{starts_with}
@@ -34,6 +34,10 @@ get_of_spent = 71 ∷ 69 ∷ 84 ∷ 32 ∷ 47 ∷ 115 ∷ 112 ∷ 101 ∷ 110 �
 abbrev pub get_of_vehicles : List ℕ
 get_of_vehicles = 71 ∷ 69 ∷ 84 ∷ 32 ∷ 47 ∷ 118 ∷ 101 ∷ 104 ∷ 105 ∷ 99 ∷ 108 ∷ 101 ∷ 115 ∷ 47 ∷ []
 
+-- "GET /health"
+abbrev pub get_of_health : List ℕ
+get_of_health = 71 ∷ 69 ∷ 84 ∷ 32 ∷ 47 ∷ 104 ∷ 101 ∷ 97 ∷ 108 ∷ 116 ∷ 104 ∷ []
+
 -- some bytes begin as the POST of a day, to be imported or for its notices
 abbrev pub begins_post : List ℕ → Bool
 begins_post bytes = starts_with eqb bytes post_of_day || starts_with eqb bytes post_of_answers
@@ -42,7 +46,8 @@ begins_post bytes = starts_with eqb bytes post_of_day || starts_with eqb bytes p
 abbrev pub begins_read : List ℕ → Bool
 begins_read bytes =
     starts_with eqb bytes get_of_days
-    || (starts_with eqb bytes get_of_spent || starts_with eqb bytes get_of_vehicles)
+    || (starts_with eqb bytes get_of_spent
+    || (starts_with eqb bytes get_of_vehicles || starts_with eqb bytes get_of_health))
 
 -- what was sent, from the first byte on that ends no line
 abbrev pub line_of : List ℕ → List ℕ
@@ -68,18 +73,23 @@ of_kind who Free = who.free
 abbrev pub is_meant : Who → Seat → Bool
 is_meant who seat = if seat.called then of_kind who (kind_of seat.held.items) else who.waiting
 
--- below a place nobody is meant who was accepted before a moment
+-- a moment does not come behind another: it is not after it, or, from the last on, not before it
+abbrev pub Precedes : Bool → Instant → Instant → Type 0
+Precedes false one other = instant_nanos one ≤ instant_nanos other
+Precedes true one other = instant_nanos other ≤ instant_nanos one
+
+-- below a place nobody is meant who goes before one of a moment
 abbrev pub NoneBefore : Who → List (Option Seat) → ℕ → Instant → Type 0
 NoneBefore who seats below since =
     (k : ℕ) (other : Seat) → k < below → slice_get seats k ≡ Some (Some other) → is_meant who other ≡ true →
-    instant_nanos since ≤ instant_nanos other.since
+    Precedes who.last since other.since
 
 -- below a place nobody is meant
 abbrev pub NoneBelow : Who → List (Option Seat) → ℕ → Type 0
 NoneBelow who seats below =
     (k : ℕ) (other : Seat) → k < below → slice_get seats k ≡ Some (Some other) → is_meant who other ≡ false
 
--- in a place sits a connection that is meant, and nobody below another place is who was accepted before it
+-- in a place sits a connection that is meant, and nobody below another place is who goes before it
 pub record Leaves (who : Who) (seats : List (Option Seat)) (below at : ℕ) (seat : Seat) : Type 0 where
   pub sits : slice_get seats at ≡ Some (Some seat)
   pub leaves : is_meant who seat ≡ true
@@ -91,9 +101,19 @@ IsFirstBelow who seats below None = NoneBelow who seats below
 IsFirstBelow who seats below (Some first) =
     (seat : Seat) × (first.1 ≡ seat.since) × Leaves who seats below first.0 seat
 
--- in a place sits a connection that is meant, and nobody is who was accepted before it
+-- in a place sits a connection that is meant, and nobody is who goes before it: the first accepted, or the last
 abbrev pub IsFirst : Who → List (Option Seat) → ℕ → Seat → Type 0
 IsFirst who seats at seat = Leaves who seats (length seats) at seat
+
+-- one, if a connection that is meant sits in a place
+abbrev pub one_of : Who → Option Seat → ℕ
+one_of who None = 0
+one_of who (Some seat) = if is_meant who seat then 1 else 0
+
+-- how many that are meant sit in places
+abbrev pub meant_in : Who → List (Option Seat) → ℕ
+meant_in who [] = 0
+meant_in who (place ∷ seats) = one_of who place + meant_in who seats
 
 -- nobody is meant
 abbrev pub HasNone : Who → List (Option Seat) → Type 0

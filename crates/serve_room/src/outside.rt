@@ -68,12 +68,14 @@ impl Outside {
             × (self.now.posts + self.now.reads ≤ self.now.most) }
         ensures free { result.free ≡ true }
         ensures called { result.waiting ≡ false }
+        ensures order { result.last ≡ false }
     {
         Who {
             posts: self.lets_post(),
             reads: self.lets_read(),
             free: true,
             waiting: false,
+            last: false,
         }
     }
 

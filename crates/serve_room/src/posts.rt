@@ -2,7 +2,7 @@
 ghost use Rattle.std.specs.Prelude.{◌≡◌, ◌<◌, ◌≤◌, ◌+◌, None, true, false, IfSome, length};
 ghost use Rattle.std.specs.Time.{instant_nanos};
 ghost use Rattle.serve_room.specs.Posts.{ends_line, begins_post, begins_read, line_of, kind_of, of_kind, is_meant};
-ghost use Rattle.serve_room.specs.Posts.{IsFirst, IsFirstBelow, HasNone};
+ghost use Rattle.serve_room.specs.Posts.{IsFirst, IsFirstBelow, HasNone, Precedes, one_of, meant_in};
 ghost use Rattle.serve_room.specs.declared.seat.Seat.{Seat as TheSeat};
 
 use crate::seat::Seat;
@@ -20,13 +20,14 @@ pub(crate) enum Kind {
 }
 
 /// Which connections are meant: of those that are to wait no more the kinds that are named, and whether those that wait
-/// for their head are.
+/// for their head are; and whether the one that was accepted last goes first.
 #[derive(Clone, Copy, Debug, PartialEq, Eq)]
 pub(crate) struct Who {
     pub(crate) posts: bool,
     pub(crate) reads: bool,
     pub(crate) free: bool,
     pub(crate) waiting: bool,
+    pub(crate) last: bool,
 }
 
 /// Whether a byte ends a line.
@@ -50,6 +51,7 @@ fn begins_read(sent: &[u8]) -> bool
     sent.starts_with(b"GET /days")
         || sent.starts_with(b"GET /spent/")
         || sent.starts_with(b"GET /vehicles/")
+        || sent.starts_with(b"GET /health")
 }
 
 /// What was sent, from the first byte on that ends no line.
@@ -107,6 +109,17 @@ fn is_not_after(one: Instant, other: Instant) -> bool
     one.duration_since(other).is_zero()
 }
 
+/// Whether a moment does not come behind another, by the first or by the last.
+fn precedes(last: bool, one: Instant, other: Instant) -> bool
+    ensures before { result ≡ true → Precedes last one other }
+    ensures behind { result ≡ false → Precedes last other one }
+{
+    if last {
+        return is_not_after(other, one);
+    }
+    is_not_after(one, other)
+}
+
 /// The first of those that are meant below a place and in it, with the moment of its accept.
 fn with_next(
     seats: &[Option<Seat>],
@@ -125,7 +138,7 @@ fn with_next(
         let Some(before) = first else {
             return Some((at, seat.since));
         };
-        if is_not_after(before.1, seat.since) {
+        if precedes(who.last, before.1, seat.since) {
             return first;
         }
         return Some((at, seat.since));
@@ -133,7 +146,7 @@ fn with_next(
     first
 }
 
-/// The seat of the connection that was accepted first of those that are meant.
+/// The seat of the connection that goes first of those that are meant.
 pub(crate) fn first_of(seats: &[Option<Seat>], who: Who) -> Option<usize>
     ensures first { IfSome result (λ at. (seat : TheSeat) × IsFirst who seats.now at seat) }
     ensures none { result ≡ None → HasNone who seats.now }
@@ -146,4 +159,29 @@ pub(crate) fn first_of(seats: &[Option<Seat>], who: Who) -> Option<usize>
         return None;
     };
     Some(found.0)
+}
+
+/// One, if a connection that is meant sits in a place.
+fn one_of(place: &Option<Seat>, who: Who) -> usize
+    ensures count { result ≡ one_of who place.now }
+    ensures few { result ≤ 1 }
+{
+    let Some(seat) = place else {
+        return 0;
+    };
+    if is_meant(seat, who) {
+        return 1;
+    }
+    0
+}
+
+/// How many that are meant sit in places.
+pub(crate) fn meant_in(seats: &[Option<Seat>], who: Who) -> usize
+    ensures { result ≡ meant_in who seats.now }
+{
+    let mut count = 0usize;
+    for at in 0..seats.len() {
+        count += one_of(&seats[at], who);
+    }
+    count
 }

@@ -2,12 +2,12 @@
 ghost use Rattle.std.specs.Prelude.{◌≡◌, true, false, is_some};
 ghost use Rattle.std.specs.List.{list_all};
 ghost use Rattle.serve_room.specs.Posts.{GivesSeat, HasNone};
-ghost use Rattle.serve_room.specs.declared.seating.TheConstants.{WAITING};
+ghost use Rattle.serve_room.specs.Giving.{who_gives};
 
 use crate::draining::Drain;
-use crate::hearing::FIRST_DRAIN;
+use crate::hearing::{FIRST_DRAIN, SEATS};
 use crate::passing::passes;
-use crate::posts::{Kind, Who, first_of, kind_of};
+use crate::posts::{Kind, Who, first_of, kind_of, meant_in};
 use crate::seat::Seat;
 use mio::net::{TcpListener, TcpStream};
 use mio::{Interest, Registry, Token};
@@ -90,12 +90,34 @@ pub(crate) fn fill(
     Ok(Gate::Full)
 }
 
+/// How many seats are a third.
+const THIRD: usize = SEATS / 3;
+
+/// Those that wait to post a day, from the last on.
+const POSTING: Who = Who {
+    posts: true,
+    reads: false,
+    free: false,
+    waiting: false,
+    last: true,
+};
+
+/// Those that wait for what is kept, from the last on.
+const READING: Who = Who {
+    posts: false,
+    reads: true,
+    free: false,
+    waiting: false,
+    last: true,
+};
+
 /// Those that wait for their head.
 const WAITING: Who = Who {
     posts: false,
     reads: false,
     free: false,
     waiting: true,
+    last: false,
 };
 
 /// Whether all seats are taken.
@@ -105,17 +127,30 @@ fn are_taken(seats: &[Option<Seat>]) -> bool
     seats.iter().all(|place| place.is_some())
 }
 
-/// Has the connection that was accepted first of those that wait for their head give its seat, where all are taken, and
-/// says whether one did.
+/// Of whom one gives a seat where all are taken.
+fn who_gives(seats: &[Option<Seat>]) -> Who
+    ensures { result ≡ who_gives seats.now }
+{
+    if meant_in(seats, POSTING) >= THIRD {
+        return POSTING;
+    }
+    if meant_in(seats, READING) >= THIRD {
+        return READING;
+    }
+    WAITING
+}
+
+/// Has a connection give its seat, where all are taken, and says whether one did: the last of those that wait to post a
+/// day or for what is kept, where these have a third of the seats, else the first of those that wait for their head.
 pub(crate) fn give_seat(seats: &mut [Option<Seat>]) -> bool
-    ensures gives { result ≡ true → GivesSeat WAITING seats.old seats.new }
+    ensures gives { result ≡ true → GivesSeat (who_gives seats.old) seats.old seats.new }
     ensures keeps { result ≡ false → seats.new ≡ seats.old }
-    ensures none { result ≡ false → list_all is_some seats.old ≡ true → HasNone WAITING seats.old }
+    ensures none { result ≡ false → list_all is_some seats.old ≡ true → HasNone (who_gives seats.old) seats.old }
 {
     if !are_taken(seats) {
         return false;
     }
-    let Some(at) = first_of(seats, WAITING) else {
+    let Some(at) = first_of(seats, who_gives(seats)) else {
         return false;
     };
     seats[at] = None;

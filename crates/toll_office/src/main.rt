@@ -1,8 +1,9 @@
 //! The tolling office of an expressway, over standard input and output and two files.
 //!
-//! `main` hands the words, standard input, the file `ASIDE_FILE`, standard output, what is kept in the file `KEPT_FILE`
-//! and standard error to `answered`, beside helpers that take its jobs; then it closes the crew with its helpers and what is kept, and ends with the status. A helper whose thread
-//! cannot be had helps with nothing; with none of them the office's own thread runs all jobs.
+//! `main` takes `--wait N` off the words, and hands what is left, standard input, the file `ASIDE_FILE`, standard output,
+//! what is kept in the file `KEPT_FILE` and standard error to `answered`, beside helpers that take its jobs; then it
+//! closes the crew with its helpers and what is kept, and ends with the status. A helper whose thread cannot be had helps
+//! with nothing; with none of them the office's own thread runs all jobs.
 #![tactic(auto)]
 
 ghost use Rattle.std.specs.Prelude.{◌≡◌, ◌≢◌, ◌↔◌, [], None, map, false};
@@ -10,11 +11,14 @@ ghost use Rattle.std.specs.String.{string_bytes};
 ghost use Rattle.day_import.specs.Faults.{FaultsBeside};
 ghost use Rattle.office_commands.specs.Uses.{asked, uses_keeper};
 ghost use Rattle.office_ends.specs.Words.{renewal_said};
+ghost use Rattle.office_words.specs.Meaning.{means};
+ghost use Rattle.office_words.specs.Waits.{words_left};
 
 use keep_files::{Cause, KEPT_FILE, SqliteKeeper, close_said};
 use keep_office::Keeper;
 use office_commands::{ASIDE_FILE, Closing};
 use office_ends::answered;
+use office_words::{WordsLeft, wait_taken};
 use road_io::{FileSource, StdSink, StdSource, Writing, words_of};
 use road_time::Limits;
 use std::alloc::Global;
@@ -77,7 +81,33 @@ fn run_words<R: Threads + Sync, C: Crew>(
     )
 }
 
-/// The same over the words and the two files.
+/// The same over the two files, by all words: where another program has the file `KEPT_FILE` open, each call waits for
+/// it as long as they say, and they are read without that.
+fn run_waiting<R: Threads + Sync, C: Crew>(
+    rt: &HostRuntime,
+    threads: &R,
+    words: Vec<String>,
+    crew: &mut C,
+) -> u8
+    requires { C.out crew.old ≡ [] }
+    ensures words { renewal_said (words_left (map string_bytes words.items)) ≡ None → result ≢ 5 → result ≢ 8
+        → (result ≡ 1 ↔ (means (words_left (map string_bytes words.items)) ≡ None)) }
+    ensures idle { C.out crew.new ≡ [] }
+    ensures which { C.which crew.new ≡ C.which crew.old }
+{
+    let WordsLeft { seconds, words } = wait_taken(words);
+    let Ok(mut aside) = FileSource::at(rt.alloc(), *rt, ASIDE_FILE) else {
+        return Closing::NoMemory.status();
+    };
+    let Ok(mut keeper) = SqliteKeeper::waiting(rt.alloc(), *rt, KEPT_FILE, seconds) else {
+        return Closing::NoMemory.status();
+    };
+    let status = run_words(rt, threads, words.as_slice(), &mut aside, &mut keeper, crew);
+    close_said(rt, keeper, "toll_office");
+    status
+}
+
+/// The same by the words that the program is given.
 fn run_office<R: Threads + Sync, C: Crew>(rt: &HostRuntime, threads: &R, crew: &mut C) -> u8
     requires { C.out crew.old ≡ [] }
     ensures idle { C.out crew.new ≡ [] }
@@ -86,15 +116,7 @@ fn run_office<R: Threads + Sync, C: Crew>(rt: &HostRuntime, threads: &R, crew: &
     let Ok(words) = words_of(rt) else {
         return Closing::NoMemory.status();
     };
-    let Ok(mut aside) = FileSource::at(rt.alloc(), *rt, ASIDE_FILE) else {
-        return Closing::NoMemory.status();
-    };
-    let Ok(mut keeper) = SqliteKeeper::at(rt.alloc(), *rt, KEPT_FILE) else {
-        return Closing::NoMemory.status();
-    };
-    let status = run_words(rt, threads, words.as_slice(), &mut aside, &mut keeper, crew);
-    close_said(rt, keeper, "toll_office");
-    status
+    run_waiting(rt, threads, words, crew)
 }
 
 /// The same by a standing crew, which is told to stop then.

@@ -21,14 +21,14 @@ returns-in_default-first c =
     (subst (IsFirstBelow c.args.who seats c.args.at) c.in_default-first.is c.requires.below)
     (here ∙ ap Some c.in-Some.is) (sym c.is_meant.ensures ∙ c.if-is_meant.true)
 
-pub returns-then-is_not_after : goal.returns-then-is_not_after
-returns-then-is_not_after c =
+pub returns-then-precedes : goal.returns-then-precedes
+returns-then-precedes c =
     let seats = c.args.seats.now in
     let here : slice_get seats c.args.at ≡ Some c.index-seats-at.result =
     slice_get_read seats (length seats) c.args.at _ refl c.requires.at (search rules) in
     stays_before c.args.who seats c.args.at c.in-Some-first.before c.in-Some.seat
     (subst (IsFirstBelow c.args.who seats c.args.at) c.in-Some-first.is c.requires.below)
-    (here ∙ ap Some c.in-Some.is) (c.is_not_after.ensures.before c.if-is_not_after.true)
+    (here ∙ ap Some c.in-Some.is) (c.precedes.ensures.before c.if-precedes.true)
 
 pub returns-then-is_meant : goal.returns-then-is_meant
 returns-then-is_meant c =
@@ -38,7 +38,7 @@ returns-then-is_meant c =
     overtakes c.args.who seats c.args.at c.in-Some-first.before c.in-Some.seat
     (subst (IsFirstBelow c.args.who seats c.args.at) c.in-Some-first.is c.requires.below)
     (here ∙ ap Some c.in-Some.is) (sym c.is_meant.ensures ∙ c.if-is_meant.true)
-    (c.is_not_after.ensures.behind c.if-is_not_after.false)
+    (c.precedes.ensures.behind c.if-precedes.false)
 
 pub returns : goal.returns
 returns c =
