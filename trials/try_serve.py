@@ -13,12 +13,11 @@ there are file handles; 200 faults of accept, and threads that cannot be had; PO
 leave; a day of so many lines again, posted beside 650 silent clients and ten POSTs in line, while others ask for live
 totals and kept amounts; a POST of a passed day and one of a refused day, whose bodies of some MB come slowly, and a client
 that does not take its answer, beside the next POST; clients that are answered and go on sending; a POST whose body comes a
-byte a second, and one whose body is held back, beside clients that ask for what is kept; 1,024 POSTs in line; the health
-over another's file; clients that vanish; a kill -9 at
-moments of a POST. The server then ends by its sessions, and Python's `sqlite3` reads what it kept. The script ends with status
-1 at the first answer that is not the expected one, or that comes late. The faults of accept are made by
-`trials/fail_accept.c`, built by `cc`. With --short what takes long is left out: several expressways, crowds of silent clients,
-faults of accept, POSTs in line, slow clients.
+byte a second, and one whose body is held back, beside clients that ask for what is kept; 1,024 POSTs in line; the health over
+another's file; clients that vanish; a kill -9 at moments of a POST. The server then ends by its sessions, and Python's `sqlite3`
+reads what it kept. The script ends with status 1 at the first answer that is not the expected one, or that comes late. The faults of
+accept are made by `trials/fail_accept.c`, built by `cc`. With --short what takes long is left out: several expressways, crowds of
+silent clients, faults of accept, POSTs in line, slow clients.
 """
 import argparse
 import http.client
