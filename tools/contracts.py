@@ -81,6 +81,10 @@ def spec_path(word, name):
     return ("" if word.crate == name else f"../{word.crate}/") + f"specs/{word.file.replace('.', '/')}.antt"
 
 
+def anchor(call):
+    return "".join(it for it in full(call).lower() if it.isalnum() or it in "_-")
+
+
 def call_text(name, call, rows, first, shown):
     """A call: where it stands, what its comment says, and its sentences."""
     where = f"[{'/'.join(call.path.relative_to(TOP / 'crates').parts[1:])}:{call.line}]({link(call, call.line)})"
@@ -102,7 +106,7 @@ def call_text(name, call, rows, first, shown):
     for row in mine:
         before = first.setdefault(id(row), call)
         again = before is not call and len(row.says) > SHORT
-        says = f"As `{full(before)}`" if again else row.says
+        says = f"As [`{full(before)}`](#{anchor(before)})" if again else row.says
         lines.append(f"| {clause_cell(row, call)} | {says} | {'the same' if again and row.when else row.when} |")
     if bare:
         lines.append(f"| {', '.join(named(call, it) for it in bare)} | no sentence yet | |")
@@ -170,10 +174,10 @@ def index():
     for name in names():
         taken = {}
         for call in sorted(public_calls(crate(name)), key=lambda it: list(kinds).index(kind_of(name, it))):
-            anchor = "".join(it for it in full(call).lower() if it.isalnum() or it in "_-")
-            taken[anchor] = taken.get(anchor, -1) + 1
+            at = anchor(call)
+            taken[at] = taken.get(at, -1) + 1
             if call.clauses:
-                at = f"{anchor}-{taken[anchor]}" if taken[anchor] else anchor
+                at = f"{at}-{taken[at]}" if taken[at] else at
                 found.append((call.name.lower(), f"| [`{full(call)}`](../crates/{name}/CONTRACTS.md#{at}) | `{name}` "
                                                  f"| {len(call.clauses)} | {kinds[kind_of(name, call)]} |"))
     head = ["# Calls", "", "All public calls of the libraries and the programs that have clauses, in the order of the names behind `::`; written",
