@@ -71,7 +71,6 @@ module _ {D : Type 0} {g : Ghosts D} where
   IsNotEnded (Trees pool) cause = StaysFull pool cause
   IsNotEnded (Whole conn) cause = StaysOpen conn cause
 
-
 -- a put that was done holds something, or says at the end why its log was not copied
 abbrev pub IsTellingWhy : {K : Type 0} → Result (Unit {0}) KeepFault → Option K → Option Cause → Type 0
 IsTellingWhy (Ok u) (Some kept) unfolded = Unit {0}

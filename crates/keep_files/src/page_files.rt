@@ -157,10 +157,7 @@ fn recovered<D: Disk>(mut pool: Pool<D>) -> Result<Pool<D>, (Option<Cause>, Pool
 
 /// Pages, once what their log has was copied into their file, if that is asked for. Where that failed they are given
 /// back, with why.
-fn folded<D: Disk>(
-    mut pool: Pool<D>,
-    folds: bool,
-) -> Result<Pool<D>, (Option<Cause>, Pool<D>)>
+fn folded<D: Disk>(mut pool: Pool<D>, folds: bool) -> Result<Pool<D>, (Option<Cause>, Pool<D>)>
     ensures kept { MatchResult result (Follows pool) (λ back. Follows pool back.1) }
     ensures failed { IfErr result (λ back. IfSome back.0 IsOfChecking) }
     ensures same { IfOk result (λ folded. IsTrue (state folded).is_clean → usable folded ≡ usable pool) }
@@ -175,7 +172,8 @@ fn folded<D: Disk>(
             if pool.is_open() {
                 return Ok(pool);
             }
-            Err((Some(cause_of_checking(OpenError::Io, false)), pool))
+            let why = why_unlisted(Some(PageError::Io), false);
+            Err((why, pool))
         }
         Err(error) => {
             let why = why_unlisted(Some(error), before < pool.tally().refused);

@@ -93,24 +93,23 @@ returns-in-Err-Some-clause-does g c =
     (string_bytes c.args.self.now.path) _ _ _
     (OfFile g.S.Store g.S.Opens.gives PutsNothing (string_bytes c.args.self.now.path) c.args.self.now.kept)
     c.in-Err-Some.cause c.in-Ok.ensures.none
-    (inl (inr (inr
+    (inl (inr (inr (
+      c.into_store.result,
       (
-        c.into_store.result,
-        (
-          (taken_comes g.S.Store g.S.Opens.gives PutsNothing
-              (IsFirst g.S.Opens.gives (string_bytes c.args.self.now.path) c.args.self.now.kept)
-              c.give_up.result c.into_store.result
-              (subst (λ conn. OfFile g.S.Store g.S.Opens.gives PutsNothing
-              (string_bytes c.args.self.now.path) c.args.self.now.kept (AsWhole conn))
-              (sym c.give_up.ensures)
-              (ready_whole_comes g.S.Store g.S.Opens.gives g.P.Pages (string_bytes c.args.self.now.path)
-              c.args.self.now.kept
-              c.in-Whole.whole
-              (subst (IsReadyOf g.S.Store g.S.Opens.gives g.P.Pages (string_bytes c.args.self.now.path)
-              c.args.self.now.kept)
-              c.in-Whole.is c.in-Ok.ensures.ready)))
-              c.into_store.ensures.undone c.into_store.ensures.quiet),
-          refused,
-        ),
-      ))))
+        (taken_comes g.S.Store g.S.Opens.gives PutsNothing
+            (IsFirst g.S.Opens.gives (string_bytes c.args.self.now.path) c.args.self.now.kept)
+            c.give_up.result c.into_store.result
+            (subst (λ conn. OfFile g.S.Store g.S.Opens.gives PutsNothing
+            (string_bytes c.args.self.now.path) c.args.self.now.kept (AsWhole conn))
+            (sym c.give_up.ensures)
+            (ready_whole_comes g.S.Store g.S.Opens.gives g.P.Pages (string_bytes c.args.self.now.path)
+            c.args.self.now.kept
+            c.in-Whole.whole
+            (subst (IsReadyOf g.S.Store g.S.Opens.gives g.P.Pages (string_bytes c.args.self.now.path)
+            c.args.self.now.kept)
+            c.in-Whole.is c.in-Ok.ensures.ready)))
+            c.into_store.ensures.undone c.into_store.ensures.quiet),
+        refused,
+      ),
+    ))))
     (c.say-in-Err-Some.ensures.fault, c.say-in-Err-Some.ensures.which)
