@@ -1,6 +1,7 @@
 /* For LD_PRELOAD. Writes, cuts and syncs of files whose names begin as "tolls.db" are recorded in the file RECORD, in the
    order in which they end, beside what is written to pipes and sockets: a letter, the name, a place, a length, bytes.
-   Behind the first STOP of these calls the disk stops, and each fails; where HALF is set half of the next write comes. */
+   Behind the first STOP of these calls the disk stops, and each fails; where HALF is set half of the next write comes. If ONLY names
+   one of the files, the calls of that alone are counted and stop. */
 #define _GNU_SOURCE
 #include <dlfcn.h>
 #include <errno.h>
@@ -63,7 +64,8 @@ static long stopped(int fd) {
     static long calls;
     char name[40];
     const char *most = getenv("STOP");
-    if (!most || !name_of(fd, name) || name[0] == '-')
+    const char *only = getenv("ONLY");
+    if (!most || !name_of(fd, name) || name[0] == '-' || (only && strcmp(only, name)))
         return 0;
     pthread_mutex_lock(&lock);
     long late = ++calls - atol(most);
@@ -95,7 +97,7 @@ ssize_t send(int fd, const void *bytes, size_t length, int flags) {
 ssize_t pwrite(int fd, const void *bytes, size_t length, off_t place) {
     long late = stopped(fd);
     if (late) {
-        if (late == 1 && getenv("HALF") && REAL(pwrite)(fd, bytes, length / 2, place) < 0)
+        if (late == 1 && getenv("HALF") && wrote(fd, bytes, REAL(pwrite)(fd, bytes, length / 2, place), place, 'W') < 0)
             abort();
         return failed();
     }
