@@ -727,13 +727,14 @@ INSERT INTO spent VALUES (100, 7, 0, 3), (100, 7, 0, 2);"""
     empty = run("day 100", statement((0, 0, 0), EMPTY, EMPTY, EMPTY, 0))
     empty_day = f"INSERT INTO days VALUES (100, x'{EMPTY}', 0, 0, 0, x'{EMPTY}', 0)"
     none = run("answers 100", "3,0,1,0\n# answered day 100 tuples 1 notices 1\n", 0, OF_100)
+    no_amount = run("vehicle 8 31 100", f"vehicle 8 days 31 to 100\ntotal{0:27}\n")
     return {
         "version 1 with a history and a day": [ByHand(HISTORY_BY_HAND + DAY_BY_HAND, 1), *asked(), *asked()],
         "version 1 with a day without a line": [
             ByHand(empty_day, 1), empty, empty, run("import 100", "# already day 100 tuples 0 notices 0 total 0\n")],
         "two amounts of one key, in a table without that key": [
-            ByHand(BOTH_BY_HAND + without_key), *asked(*OF_ITS_ROWS, "amounts", "vehicle", cause=ODD_ROW, oldest=none, other_vehicle=run(
-                "vehicle 8 31 100", f"vehicle 8 days 31 to 100\ntotal{0:27}\n"))],
+            ByHand(BOTH_BY_HAND + without_key),
+            *asked(*OF_ITS_ROWS, "amounts", "vehicle", cause=ODD_ROW, oldest=none, other_vehicle=no_amount)],
         "no table of tariffs": [ByHand(BOTH_BY_HAND + "DROP TABLE tariffs"), *asked("tariffs", *OF_AMOUNTS, cause=ODD_ROW)],
         "the page on which the index begins is spoiled": [
             ByHand(BOTH_BY_HAND), Turned(4), *asked(*OF_ITS_ROWS, *OF_AMOUNTS, "vehicle", "other vehicle")],

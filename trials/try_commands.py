@@ -291,7 +291,8 @@ def faults(program, top):
     whole = NOTICE + f"# stored day {FIRST} tuples 1 notices 1 total 0\n"
     for room in range(len(whole)):
         office = Office(program, top / f"room-{room}")
-        expect(f"room for {room} bytes", office.told("import", FIRST, text=ONE, LD_PRELOAD=library, ROOM=str(room)), (5, whole[:room], ""))
+        found = office.told("import", FIRST, text=ONE, LD_PRELOAD=library, ROOM=str(room))
+        expect(f"room for {room} bytes", found, (5, whole[:room], ""))
         kept = whole.replace("stored", "already")[len(NOTICE):] if room >= len(NOTICE) else whole
         expect(f"behind room for {room} bytes", office.run("import", FIRST, text=ONE), kept)
         count += 1

@@ -3,15 +3,15 @@
 
     python3 trials/try_docs.py OFFICE [SERVE] [--kit] [--page docs/USE.md ..]
 
-OFFICE is the executable toll_office, SERVE is toll_serve; without it what needs the server is passed over. Each page is run by
-one shell, in a copy of the repository's example data, documents, scripts and programs, which are found only where the page puts
-them on the path. A block ```console has lines `$ command`, and `> ` where one goes on, each with the lines that it must print; in
-a block without a name, where each line is one, a command may be followed by two blanks, `# ` and the one line that it must print,
-or by a text that says what it does. In a block of another name none may stand. `..` stands for anything. What is run for a command
-between backticks, behind the blocks of its page, is said by INLINE below, which must name each. With --kit the copy is a clone, and the commands of the kit are run too, but for the gate:
-tools/unproved.py, and tools/build.py, which takes a minute if the kit has kept what it proves, and else up to an hour for each
-program. The script ends with status 1 if a command prints something else, if one whose text is not said ends with a status above
-8, or if one is not named.
+OFFICE is the executable toll_office, SERVE is toll_serve; without it what needs the server is passed over. Each page is run
+by one shell, in a copy of the repository's example data, documents, scripts and programs, which are found only where the page
+puts them on the path. A block ```console has lines `$ command`, and `> ` where one goes on, each with the lines that it must
+print; in a block without a name, where each line is one, a command may be followed by two blanks, `# ` and the one line that
+it must print, or by a text that says what it does. In a block of another name none may stand. `..` stands for anything. What
+is run for a command between backticks, behind the blocks of its page, is said by INLINE below, which must name each. With
+--kit the copy is a clone, and the commands of the kit are run too, but for the gate: tools/unproved.py, and tools/build.py,
+which takes a minute if the kit has kept what it proves, and else up to an hour for each program. The script ends with status
+1 if a command prints something else, if one whose text is not said ends with a status above 8, or if one is not named.
 """
 import argparse
 import os
@@ -72,9 +72,8 @@ INLINE = {
         ('make -s -C "$OLD" install PREFIX="$PWD/installed" && ls installed/bin installed/share/man/man1 | tr "\\n" " "',
          "installed/bin: toll_office toll_serve  installed/share/man/man1: toll_office.1 toll_serve.1 ")],
     "make release": [
-        ('git -C "$OLD" rev-parse -q --verify HEAD > /dev/null || (git -C "$OLD" init -q && git -C "$OLD" '
-         '-c user.name=room -c user.email=room@localhost commit -q --allow-empty -m room)', ""),
-        ('make -s -C "$OLD" release | cut -c 67-', "ductchervil-..-linux-x86_64.tar.gz"),
+        ('(cd "$OLD"; git rev-parse -q --verify HEAD > commit 2>&1 || (git init -q && git -c user.name=room -c user.email=room@localhost '
+         'commit -q --allow-empty -m room); make -s release | cut -c 67-)', "ductchervil-..-linux-x86_64.tar.gz"),
         ('(cd "$OLD"/dist/ductchervil-*/ && sha256sum --quiet -c SHA256SUMS && ls)', "..README.md..bin..")],
     "grep -w NAME crates.txt": [('grep -c -w road_time "$SOURCE/crates.txt"', "..")],
     "ulimit -n": [("ulimit -n | wc -l", "1")],
