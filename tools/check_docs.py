@@ -7,9 +7,9 @@ Looked at are README, CHANGELOG and docs. A link must lead to a file of the repo
 `crates/`, `docs/` or one of the rooms (`bench/`, `tools/`, `trials/`, `examples/`, `scripts/`) must be there. The code that
 README and PROOF show must stand in the file that they name, and the tables and words of FORMATS in the definitions, as the
 words `File.word` of RULES, HTTP, TRAFFIC and GUARANTEES; FORMATS must have each cause of a refusal and of a keeper fault,
-HTTP each path. No line but of a table, a picture or a block is longer than 128 characters. The script ends with status 1 if
-anything is wrong. It proves nothing and runs no program; trials/try_docs.py does. `.ci/run --documents` runs the other checks
-too.
+HTTP each path, and the table of laws in CHANGING each law of the crates. No line but of a table, a picture or a block is
+longer than 128 characters. The script ends with status 1 if anything is wrong. It proves nothing and runs no program;
+trials/try_docs.py does. `.ci/run --documents` runs the other checks too.
 """
 import re
 import sys
@@ -82,9 +82,17 @@ def routes_missing():
     return [f"docs/HTTP.md: no {it}" for it in routes if f"| `{it}` |" not in said]
 
 
+def laws_missing():
+    """The laws of the crates that the table of CHANGING has not, and those of it that are not in the crate beside them."""
+    there = {(path.parts[-3], it) for path in TOP.glob("crates/*/src/*laws.rt") for it in re.findall(r"fn (\w+_law)\b", path.read_text())}
+    rows = re.findall(r"((?:`\w+`(?:, )?)+): ((?:`\w+_law`(?:, )?)+)", (TOP / "docs/CHANGING.md").read_text())
+    said = {(crate, it) for crates, names in rows for crate in re.findall(r"\w+", crates) for it in re.findall(r"\w+", names)}
+    return [f"docs/CHANGING.md: {'no' if it in there else 'a law that is not there,'} {it[1]} of {it[0]}" for it in sorted(there ^ said)]
+
+
 def main():
     wrong = shown("README.md") + shown("docs/PROOF.md") + tables_differ() + words_missing()
-    wrong += causes_missing() + routes_missing() + names_missing()
+    wrong += causes_missing() + routes_missing() + names_missing() + laws_missing()
     for page in [*PAGES, TOP / "CHANGELOG.md"]:
         where, code = page.relative_to(TOP), False
         text = page.read_text()
