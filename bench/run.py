@@ -101,7 +101,7 @@ def short_name(command, program, plain, lacks):
     """A command as the documents name it."""
     if command[0] == program:
         return f"{command[1]}, {command[-1]} worker{'' if command[-1] == '1' else 's'}"
-    return f"unproved, {command[1]}{lacks}" if command[0] == plain else " ".join(it for it in command if it != "-")
+    return f"in C, {command[1]}{lacks}" if command[0] == plain else " ".join(it for it in command if it != "-")
 
 
 def machine(runs):

@@ -5,10 +5,11 @@
 
 Looked at are README, CHANGELOG and docs. A link must lead to a file of the repository. A path in backticks that begins with
 `crates/`, `docs/` or one of the rooms (`bench/`, `tools/`, `trials/`, `examples/`, `scripts/`) must be there. The code that
-README and PROOF show must stand in the file that they name, and the tables and words of FORMATS in the definitions; FORMATS must
-have each cause of a refusal and of a keeper fault, HTTP each path. No line but of a table, a picture or a block is longer than 128 characters.
-The script ends with status 1 if anything is wrong. It proves nothing and runs no program; trials/try_docs.py does.
-`.ci/run --documents` runs the other checks too.
+README and PROOF show must stand in the file that they name, and the tables and words of FORMATS in the definitions, as the
+words `File.word` of RULES, HTTP, TRAFFIC and GUARANTEES; FORMATS must have each cause of a refusal and of a keeper fault,
+HTTP each path, and the table of laws in CHANGING each law of the crates. No line but of a table, a picture or a block is
+longer than 128 characters. The script ends with status 1 if anything is wrong. It proves nothing and runs no program;
+trials/try_docs.py does. `.ci/run --documents` runs the other checks too.
 """
 import re
 import sys
@@ -39,7 +40,7 @@ def shown(page):
 
 def tables_differ():
     """Whether the tables' texts in FORMATS are others than those of the definitions."""
-    block = re.search(r"^```\n(CREATE TABLE.*?)^```", (TOP / "docs/FORMATS.md").read_text(), re.S | re.M)
+    block = re.search(r"^```sql\n(CREATE TABLE.*?)^```", (TOP / "docs/FORMATS.md").read_text(), re.S | re.M)
     return [] if block and block[1].splitlines() == "\n".join(tables().values()).splitlines() else ["docs/FORMATS.md: other tables"]
 
 
@@ -48,6 +49,21 @@ def words_missing():
     rows = re.findall(r"^\|[^|]*\|([^|]*)\| `(crates/[\w/]+\.antt)` \|$", (TOP / "docs/FORMATS.md").read_text(), re.M)
     named = [(word, path) for words, path in rows for word in re.findall(r"`(\w+)`", words)]
     return [f"docs/FORMATS.md: no {word} in {path}" for word, path in named if not re.search(rf"\b{word}\b", (TOP / path).read_text())]
+
+
+# the crates whose definitions a page names as `File.word`
+NAMED = {"RULES": ["road_time"], "HTTP": ["serve_requests", "serve_desk"], "GUARANTEES": ["*"], "TRAFFIC": ["tuples_traffic", "day_plan"]}
+
+
+def names_missing():
+    """The words `File.word` of a page that are in no file of that name among the definitions of the page's crates."""
+    wrong = []
+    for page, crates in NAMED.items():
+        for file, word in sorted(set(re.findall(r"`([A-Z]\w+)\.(\w+)`", (TOP / f"docs/{page}.md").read_text()))):
+            texts = [path.read_text() for crate in crates for path in TOP.glob(f"crates/{crate}/specs/{file}.antt")]
+            if f"{file}.{word}" not in ("File.word", "CONTRACTS.md", "Lav.antt") and not any(re.search(rf"^\s*(?:abbrev |unfoldable |pub |record |data )*{word}\b", it, re.M) for it in texts):
+                wrong.append(f"docs/{page}.md: no {file}.{word}")
+    return wrong
 
 
 def causes_missing():
@@ -66,9 +82,17 @@ def routes_missing():
     return [f"docs/HTTP.md: no {it}" for it in routes if f"| `{it}` |" not in said]
 
 
+def laws_missing():
+    """The laws of the crates that the table of CHANGING has not, and those of it that are not in the crate beside them."""
+    there = {(path.parts[-3], it) for path in TOP.glob("crates/*/src/*laws.rt") for it in re.findall(r"fn (\w+_law)\b", path.read_text())}
+    rows = re.findall(r"((?:`\w+`(?:, )?)+): ((?:`\w+_law`(?:, )?)+)", (TOP / "docs/CHANGING.md").read_text())
+    said = {(crate, it) for crates, names in rows for crate in re.findall(r"\w+", crates) for it in re.findall(r"\w+", names)}
+    return [f"docs/CHANGING.md: {'no' if it in there else 'a law that is not there,'} {it[1]} of {it[0]}" for it in sorted(there ^ said)]
+
+
 def main():
     wrong = shown("README.md") + shown("docs/PROOF.md") + tables_differ() + words_missing()
-    wrong += causes_missing() + routes_missing()
+    wrong += causes_missing() + routes_missing() + names_missing() + laws_missing()
     for page in [*PAGES, TOP / "CHANGELOG.md"]:
         where, code = page.relative_to(TOP), False
         text = page.read_text()

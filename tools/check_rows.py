@@ -3,7 +3,7 @@
 
     python3 tools/check_rows.py [--list]
 
-Each row must name a test, a theorem or a line of a test program that is there (tools/rows.py says how), and each test must be
+Each row must name a test, a theorem or a part of a trial that is there (tools/rows.py says how), and each test must be
 named by a row; each path and file of the crates that the page names must be there, and each row in quotes must stand in a test.
 No two rows of the commands may have one name.
 With --list each row is printed with the places that it names. If there is a C compiler, examples/plain.c is run on each row whose
@@ -19,7 +19,7 @@ import tempfile
 from rows import COMMANDS, PAGES, TOP, Places, rows
 
 sys.path.append(str((TOP / COMMANDS).parent))
-from rows_of_commands import TABLES
+from rows_of_commands import FILES, TABLES
 
 
 def named(places):
@@ -104,7 +104,7 @@ def main():
             print(f"{at}: {part}: {name}", *(f"    {where} {of}" for where, of in found), sep="\n")
     tests = [(where, name) for where, names in places.tests.items() for name in names]
     wrong += [f"{where}: {name}: no ROWS.md has a row of it" for where, name in tests if (where, name) not in have]
-    names = [name for table in TABLES.values() for name in table()]
+    names = [name for table in [*TABLES.values(), *(it for it, _ in FILES.values())] for name in table()]
     wrong += [f"{COMMANDS}: two rows are {name!r}" for name in sorted({it for it in names if names.count(it) > 1})]
     asked, others = differing()
     wrong += others

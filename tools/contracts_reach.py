@@ -69,5 +69,6 @@ def reached():
         look(name, call.path, f"{call.head} {call.body} {call.owner}")
         for token in set(re.findall(r"(?:\.|::)\s*(\w+)", call.body)) - said:
             said.add(token)
-            waiting.extend((where, it) for owner, where, it in methods.get(token, []) if owner in done_things)
+            # (a type of the kit is nowhere in the crates)
+            waiting.extend((where, it) for owner, where, it in methods.get(token, []) if owner in done_things or owner not in things)
     return {(name, call.full, call.line) for name, it in every.items() for call in it.calls if id(call) in done_calls}

@@ -4,11 +4,11 @@
     python3 tools/count_house.py [--names] [TOP]
 
 A clause is a `requires` or an `ensures` with its name and its braces, or a ghost member of a trait or a type; its lines are
-those that it takes in its file. A clause line is a repeat if the same clause, blanks apart, stood earlier. A paragraph is three
-clauses and more of a function that one earlier function has too. The walk is that of a byte from `main` and standard input to
-a notice, where a day is answered in rounds: the calls and returns of WALK in their order, each in the crate that has it now; it
-crosses a border where the next is in another crate. With --names files and definitions are named, not counted alone. It proves
-nothing and changes nothing.
+those that it takes in its file. A promise is an `ensures`; `self` is an argument. A clause line is a repeat if the same
+clause, blanks apart, stood earlier. A paragraph is three clauses and more of a function that one earlier function has too.
+The walk is that of a byte from `main` and standard input to a notice, where a day is answered in rounds: the calls and
+returns of WALK in their order, each in the crate that has it now; it crosses a border where the next is in another crate.
+With --names files and definitions are named, not counted alone. It proves nothing and changes nothing.
 """
 import argparse
 import collections
@@ -88,6 +88,36 @@ def paragraphs(sources):
     return every, lines, count
 
 
+def parted(text, at):
+    """The parts of a list in brackets that begins at a place, and the place behind it."""
+    depth, parts, begin = 0, [], at + 1
+    while True:
+        c = text[at]
+        if c in "([{<":
+            depth += 1
+        elif c in ")]}" or c == ">" and text[at - 1] not in "-=":
+            depth -= 1
+        if c == "," and depth == 1 or depth == 0:
+            parts.append(text[begin:at].strip())
+            begin = at + 1
+        at += 1
+        if depth == 0:
+            return [it for it in parts if it], at
+
+
+def sizes(sources):
+    """Of each function its place, and how many promises, arguments and type parameters it has."""
+    for path in sources:
+        text = path.read_text()
+        heads = list(re.finditer(r"^[ \t]*(?:pub(?:\([\w ]+\))? )?(?:const |unsafe )*fn (\w+)", text, re.M))
+        for it, end in zip(heads, [it.start() for it in heads[1:]] + [len(text)]):
+            types, at = parted(text, it.end()) if text[it.end()] == "<" else ([], it.end())
+            arguments, at = parted(text, at)
+            promises = len(re.findall(r"^[ \t]*ensures\b", text[at:end], re.M))
+            where = f"{path.parts[-3]}/{path.name}:{text.count(chr(10), 0, it.start()) + 1} {it[1]}"
+            yield where, promises, len(arguments), sum(it[0] != "'" for it in types)
+
+
 def station(top, said, cache):
     """The crate of a call of the walk."""
     kind, _, name = said.rpartition("::")
@@ -136,6 +166,11 @@ def main():
                 repeats += lines
             seen.add(text)
     print(f"clauses: {again} in {count} lines; {repeats} lines are repeats ({again - len(seen)} clauses)")
+    for what, most, at in (("promises", 9, 1), ("arguments", 9, 2), ("type parameters", 6, 3)):
+        found = sorted((it for it in sizes(sources(top, ".rt", "src")) if it[at] > most), key=lambda it: -it[at])
+        print(f"functions with more than {most} {what}: {len(found)}" + (f", at most {found[0][at]}" if found else ""))
+        for it in found if given.names else []:
+            print(f"    {it[at]} {it[0]}")
     if given.names:
         for text, times in how.most_common(40):
             print(f"    {times} times: {text[:160]}")

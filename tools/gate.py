@@ -35,6 +35,8 @@ CHECKS = ["tools/write_docs.py --check", "tools/pictures.py --check", "tools/che
 # each with the tools that it needs
 TRIALS = [(f"trials/try_commands.py {OFFICE}", ["cc"]), (f"trials/try_docs.py {OFFICE} {SERVE}", ["curl"]),
           (f"trials/try_foreign.py {OFFICE}", []), (f"trials/try_renew.py {OFFICE}", []), (f"trials/try_unsound.py {OFFICE}", []),
+          (f"trials/try_power.py {SERVE} {OFFICE} --images 100 --every 5", ["cc"]), (f"trials/try_left_over.py {OFFICE}", []),
+          (f"trials/try_replaced.py {SERVE} {OFFICE}", []),
           (f"trials/try_new_folder.py {OFFICE}", ["sqlite3"]), (f"trials/try_serve.py {SERVE} --short", ["cc", "curl"]),
           ("trials/try_page.py", ["chromium"])]
 SUMMARY = re.compile(r"(\d+) passed, (\d+) failed\b")

@@ -2,10 +2,10 @@
 """The rows of the files ROWS.md and the tests of the crates, as tools/check_rows.py reads them. It prints the tests by their
 files, each with the parts of those files that have its rows.
 
-A row is a line of a table. Where it stands is said in its column "Has it" or "Line", else in the text
+A row is a line of a table. Where it stands is said in its column "Has it", else in the text
 of its part. What is said names tests (functions behind `#[test]`), tables of rows of the commands (functions of
-trials/rows_of_commands.py), theorems with their file, constants or functions of a program that is a test, a line that such a
-program must print, or a row in quotes that stands in a file of tests; "the same" is what was said of the row above.
+trials/rows_of_commands.py), functions of another trial, with its file, theorems with their file, or a row in quotes that stands in
+a file of tests; "the same" is what was said of the row above.
 """
 import pathlib
 import re
@@ -13,18 +13,18 @@ import re
 TOP = pathlib.Path(__file__).resolve().parent.parent
 PAGES = [TOP / "trials/ROWS.md", *sorted(TOP.glob("crates/*/ROWS.md"))]
 COMMANDS = "trials/rows_of_commands.py"
+TRIALS = [COMMANDS, *sorted(it.relative_to(TOP).as_posix() for it in TOP.glob("trials/try_*.py"))]
 TEST = r"#\[test[^\]]*\]\s*(?:#\[[^\]]*\]\s*)*(?:pub )?fn (\w+)"
 
 
 def files():
-    """The sources, tests and proofs of the crates, and the rows of the commands, by their paths."""
+    """The sources, tests and proofs of the crates, and the trials with the rows of the commands, by their paths."""
     found = {}
     for path in sorted(TOP.glob("crates/*/**/*")):
         where = path.relative_to(TOP).as_posix()
         if path.suffix in (".rt", ".antt") and "/out/" not in where:
             found[where] = path.read_text()
-    found[COMMANDS] = (TOP / COMMANDS).read_text()
-    return found
+    return found | {where: (TOP / where).read_text() for where in TRIALS}
 
 
 def cells_of(line):
@@ -58,12 +58,12 @@ class Places:
         self.every = files()
         self.tests, self.by_name, self.words, self.printed = {}, {}, {}, {}
         for where, text in self.every.items():
-            behind = r"^@(?:table|relation)\ndef (\w+)" if where == COMMANDS else TEST
+            behind = r"^@(?:table|relation|over_files\(.*\))\ndef (\w+)" if where == COMMANDS else TEST
             for name in re.findall(behind, text, re.M):
                 self.tests.setdefault(where, []).append(name)
                 self.by_name.setdefault(name, []).append(where)
-            kind = r"^(\w+) :" if where.endswith(".antt") else r"\b(?:fn|const|static) (\w+)"
-            if where.endswith(".rt") or re.search(r"/proofs/\w+\.antt$", where):
+            kind = r"^(\w+) :" if where.endswith(".antt") else r"^def (\w+)" if where in TRIALS else r"\b(?:fn|const|static) (\w+)"
+            if where.endswith(".rt") or where in TRIALS or re.search(r"/proofs/\w+\.antt$", where):
                 for word in re.findall(kind, text, re.M):
                     self.words.setdefault(word, []).append(where)
         for path in sorted(TOP.glob("crates/*/stdout")):
@@ -82,17 +82,15 @@ class Places:
 
     def of(self, said):
         """The places that a text names, each a file and a name."""
-        found, crates = [], {it for it in re.findall(r"`(\w+)`", said) if (TOP / "crates" / it).is_dir()}
-        crates |= set(re.findall(r"`crates/(\w+)", said))
+        found = []
         for names, file, crate in re.findall(r"((?:`\w+`(?:\s*\([^)]*\))?(?:, | and )?)+) in (?:`\w+\.antt`(?: and|,) )?"
                                              r"`(\w+\.antt)`(?: of `(\w+)`)?", said):
             found += [it for word in re.findall(r"`(\w+)`", names) for it in self.proof(word, file, crate)]
         for word in re.findall(r"`(\w+)`", said):
             if word in self.by_name:
                 found += [(where, word) for where in self.by_name[word]]
-            elif any(it.endswith("worked.rt") or it.split("/")[1] in self.printed and not word.islower()
-                     for it in self.words.get(word, [])):
-                found += [(where, word) for where in self.words[word] if not crates or where.split("/")[1] in crates]
+        for names, where in re.findall(r"((?:`\w+`(?:, | and )?)+) (?:in|of) `(trials/try_\w+\.py)`", said):
+            found += [(where, word) for word in re.findall(r"`(\w+)`", names) if where in self.words.get(word, [])]
         for word in re.findall(r"`([\w/]+\.(?:rt|py))`", said):
             beside = [it for where in self.every if where.endswith(word) for it in self.tests_beside(where)]
             if not {name for _, name in beside} & {name for _, name in found}:
@@ -113,11 +111,7 @@ class Places:
         last = []
         for at, part, cells, text in rows():
             said = cells.get("Has it", text)
-            if "Line" in cells:
-                found = [(f"crates/{it}/stdout", line) for line in re.findall(r"`([^`]+)`", cells["Line"])
-                         for it in self.printed if f"`{it}`" in text and line in self.printed[it]]
-            else:
-                found = self.of(said) + (self.of_quoted(said) if "Has it" in cells else [])
+            found = self.of(said) + (self.of_quoted(said) if "Has it" in cells else [])
             if "Has it" in cells and re.search(r"\bthe same\b|\bthose\b", said):
                 found += last
             last = found

@@ -10,7 +10,7 @@ import subprocess
 import sys
 
 TOP = pathlib.Path(__file__).resolve().parent.parent
-DATA = TOP / "crates/example_office/data"
+DATA = TOP / "examples/day"
 SOURCES = {"day": TOP / "bench/day.c", "plain": TOP / "examples/plain.c"}
 TABLES = ("days", "spent", "past", "day_tariffs", "tariffs", "form")
 
@@ -31,12 +31,17 @@ class Office:
         self.program, self.folder = os.path.realpath(program), pathlib.Path(folder)
         self.folder.mkdir(exist_ok=True)
 
+    def told(self, *words, text="", **environment):
+        """The status of a command, and what it writes to standard output and standard error."""
+        done = subprocess.run([self.program, *map(str, words)], input=text.encode(), cwd=self.folder, stdout=subprocess.PIPE,
+                              stderr=subprocess.PIPE, env={**os.environ, **environment})
+        return done.returncode, done.stdout.decode(), done.stderr.decode()
+
     def run(self, *words, text="", status=0):
         """What a command writes, where it ends with that status."""
-        done = subprocess.run([self.program, *map(str, words)], input=text.encode(), cwd=self.folder, stdout=subprocess.PIPE,
-                              stderr=subprocess.PIPE)
-        expect(f"status of {words} in {self.folder.name}, after {done.stdout[-80:]!r}", done.returncode, status)
-        return done.stdout.decode()
+        found, out, _ = self.told(*words, text=text)
+        expect(f"status of {words} in {self.folder.name}, after {out[-80:]!r}", found, status)
+        return out
 
     def copy(self, folder):
         shutil.copytree(self.folder, folder)
@@ -63,6 +68,15 @@ def tables():
         body = re.search(rf"^make_{name} =(.*?)(?=\n\n)", text, re.S | re.M).group(1)
         found[name] = "".join(re.findall(r'codes "((?:[^"\\]|\\.)*)"', body)).replace("\\n", "\n")
     return found
+
+
+def change_by_hand(kept, steps, text=""):
+    """Runs statements on a kept file, as another hand may; of the steps each may have values."""
+    with contextlib.closing(sqlite3.connect(kept)) as database, database:
+        for step in filter(None, steps):
+            database.execute(*(step if isinstance(step, tuple) else (step,)))
+        database.commit()
+        database.executescript(text)
 
 
 def compiled(name, folder):

@@ -1,6 +1,7 @@
 /* For LD_PRELOAD. Writes, cuts and syncs of files whose names begin as "tolls.db" are recorded in the file RECORD, in the
-   order in which they end, beside what is written to pipes and sockets: a letter, the name, a place, a length, bytes.
-   Behind the first STOP of these calls the disk stops, and each fails; where HALF is set half of the next write comes. */
+   order in which they end, beside what is about to be written to pipes and sockets: a letter, the name, a place, a length, bytes.
+   Behind the first STOP of these calls the disk stops, and each fails; where HALF is set half of the next write comes. If ONLY names
+   one of the files, the calls of that alone are counted and stop. */
 #define _GNU_SOURCE
 #include <dlfcn.h>
 #include <errno.h>
@@ -63,7 +64,8 @@ static long stopped(int fd) {
     static long calls;
     char name[40];
     const char *most = getenv("STOP");
-    if (!most || !name_of(fd, name) || name[0] == '-')
+    const char *only = getenv("ONLY");
+    if (!most || !name_of(fd, name) || name[0] == '-' || (only && strcmp(only, name)))
         return 0;
     pthread_mutex_lock(&lock);
     long late = ++calls - atol(most);
@@ -76,30 +78,39 @@ static int failed(void) {
     return -1;
 }
 
-static ssize_t wrote(int fd, const void *bytes, ssize_t done, int64_t place, char what) {
+static ssize_t wrote(int fd, const void *bytes, ssize_t done, int64_t place) {
     char name[40];
-    if (done > 0 && name_of(fd, name))
-        record(name[0] == '-' ? 'A' : what, name, place, bytes, done);
+    if (done > 0 && name_of(fd, name) && name[0] != '-')
+        record('W', name, place, bytes, done);
     return done;
+}
+
+/* An answer is recorded before it is given: behind it the client may end the program at once. */
+static void answers(int fd, const void *bytes, size_t length) {
+    char name[40];
+    if (name_of(fd, name) && name[0] == '-')
+        record('A', name, 0, bytes, length);
 }
 
 ssize_t write(int fd, const void *bytes, size_t length) {
     int64_t place = lseek(fd, 0, SEEK_CUR);
-    return wrote(fd, bytes, REAL(write)(fd, bytes, length), place, 'W');
+    answers(fd, bytes, length);
+    return wrote(fd, bytes, REAL(write)(fd, bytes, length), place);
 }
 
 ssize_t send(int fd, const void *bytes, size_t length, int flags) {
-    return wrote(fd, bytes, REAL(send)(fd, bytes, length, flags), 0, 'A');
+    answers(fd, bytes, length);
+    return REAL(send)(fd, bytes, length, flags);
 }
 
 ssize_t pwrite(int fd, const void *bytes, size_t length, off_t place) {
     long late = stopped(fd);
     if (late) {
-        if (late == 1 && getenv("HALF") && REAL(pwrite)(fd, bytes, length / 2, place) < 0)
+        if (late == 1 && getenv("HALF") && wrote(fd, bytes, REAL(pwrite)(fd, bytes, length / 2, place), place) < 0)
             abort();
         return failed();
     }
-    return wrote(fd, bytes, REAL(pwrite)(fd, bytes, length, place), place, 'W');
+    return wrote(fd, bytes, REAL(pwrite)(fd, bytes, length, place), place);
 }
 
 ssize_t pwrite64(int fd, const void *bytes, size_t length, off64_t place) { return pwrite(fd, bytes, length, place); }

@@ -3,22 +3,34 @@
 `trials/try_commands.py` runs them over a built program. What is to come of a row was worked out by hand from docs/RULES.md and
 docs/FORMATS.md, or by another program where that is said, never from what the program writes. Each function is a table, as a
 test is; each row of it has a name that says what it tries, and one or more runs, in turn in one folder that is new. Where what
-is to come is told by another run, a function is a relation: it gives a name, what was found and what was wanted.
+is to come is told by another run, a function is a relation: it gives a name, what was found and what was wanted. The rows of
+FILES run over each kind of kept file; between two runs of a row another hand may change the file.
 """
 import dataclasses
+import hashlib
 
-TABLES, RELATIONS = {}, {}
+TABLES, RELATIONS, FILES = {}, {}, {}
+ODD_ROW, UNREADABLE = "a row of it is not as these programs write it", "a page or a row of it is spoiled, or the disk failed"
+# The kinds of kept file: what makes one before our tables and behind them, if a row does not begin with a new folder, and the
+# cause of a fault of what is read. By its trees is read what is exactly ours; anything else as a whole, by SQL.
+KINDS = {
+    "ours": ("", "", UNREADABLE),
+    "with an index more": ("", "CREATE INDEX by_tolls ON spent (tolls)", ODD_ROW),
+    "in pages of 512 bytes": ("PRAGMA page_size = 512", "", ODD_ROW),
+}
 
 
 @dataclasses.dataclass(frozen=True)
 class Run:
-    """A command: its words, what it writes, its status, what it reads, and the notices put into its folder, if any are."""
+    """A command: its words, what it writes, its status, what it reads, and the notices put into its folder, if any are; of a
+    keeper's fault the cause, if it is another than the kind of file has."""
 
     words: tuple
     text: str
     status: int = 0
     given: str = ""
     notices: str | None = None
+    cause: str | None = None
 
 
 def table(rows):
@@ -27,9 +39,37 @@ def table(rows):
     return rows
 
 
+@dataclasses.dataclass(frozen=True)
+class ByHand:
+    """Statements that SQLite runs on the kept file. If it is not there, it is made first, with our tables of a version."""
+
+    text: str
+    version: int = 2
+
+
+@dataclasses.dataclass(frozen=True)
+class Turned:
+    """The first byte of a page of the kept file is turned, so that it is spoiled."""
+
+    page: int
+
+
+@dataclasses.dataclass(frozen=True)
+class Alone:
+    """The log beside the kept file is taken away."""
+
+
 def relation(rows):
     RELATIONS[rows.__name__] = rows
     return rows
+
+
+def over_files(*kinds):
+    """Names a function as a table whose rows run over each of these kinds of kept file, or over all."""
+    def named(rows):
+        FILES[rows.__name__] = rows, kinds or tuple(KINDS)
+        return rows
+    return named
 
 
 def run(words, text, status=0, given="", notices=None):
@@ -105,6 +145,16 @@ def lines_and_their_answers():
         "a NUL alone": ("\0", "# refused line 1 fields 1\n", 2),
         "fifteen empty fields": ("," * 14, "# refused line 1 number 1\n", 2),
         "a vehicle of ten digits": (filled("0,0,9999999999,30,0,0,0,10,52800"), "# refused line 1 range 3\n", 2),
+        "leading zeros": ("00," + ONE[2:], ANSWERED, 0),
+        "a plus sign": ("+" + ONE, "# refused line 1 number 1\n", 2),
+        "quotes": ('"0"' + ONE[1:], "# refused line 1 number 1\n", 2),
+        "a blank behind the first comma": ("0, " + ONE[2:], "# refused line 1 number 2\n", 2),
+        "tabs in place of commas": (ONE.replace(",", "\t"), "# refused line 1 fields 1\n", 2),
+        "a byte order mark": ("\ufeff" + ONE, "# refused line 1 number 1\n", 2),
+        "a line of column names": ("Type,Time,VID,Spd,XWay,Lane,Dir,Seg,Pos,QID,Sinit,Send,DOW,TOD,Day\n" + ONE,
+                                   "# refused line 1 number 1\n", 2),
+        "the greatest number in a field that is not used": (filled("0,0,7,30,0,0,0,10,52800,9999999999"), ANSWERED, 0),
+        "a position of another segment": (filled("0,0,7,30,0,0,0,10,0"), ANSWERED, 0),
     }
     return {name: [run("answers 100", text, status, given)] for name, (given, text, status) in rows.items()}
 
@@ -124,7 +174,8 @@ def words_and_their_ends():
            "import 69", "import 100 --late 121", "past 69", "generate", "rehearse 1 2", "tariff 0 50 101 2",
            "tariff 256 50 40 2", "vehicle 7 9 8", "--help", "help", "--wait", "--wait 5", "answers 100 --wait",
            "answers 100 --wait 3601", "answers 100 --wait=", "answers 100 --wait -1", "answers 100 --wait 1 --wait 1",
-           "answers -- 100 --wait 1", "answers 100 --late --wait 1", "answers 100 --waits 1", "renew 100 --wait x"]
+           "answers -- 100 --wait 1", "answers 100 --late --wait 1", "answers 100 --waits 1", "renew 100 --wait x",
+           "renew 100 --drop=1", "renew 100 --drop", "renew -- 100 --drop 1", "renew 69", "answer 100", "answers 100 \udcff"]
     rows |= {words: (words.split(), "# words\n", 1) for words in bad}
     rows |= {"no word": ([], "# words\n", 1), "an empty word": ([""], "# words\n", 1)}
     return {name: [Run(tuple(words), text, status, ONE, NOTICE)] for name, (words, text, status) in rows.items()}
@@ -263,6 +314,27 @@ def accidents_of_the_road():
             pair + "0,2,130,-1,0\n1,180,3,10\n0,3,180,0,0\n0,4,240,16,0\n# answered day 100 tuples 11 notices 6\n"),
         "stops broken by another way": by_any_workers(
             words, broken, pair + "0,2,60,-1,0\n0,2,90,0,0\n0,3,180,0,0\n# answered day 100 tuples 10 notices 5\n"),
+    }
+
+
+@table
+def choices_of_the_office():
+    """Where the benchmark leaves a choice: lane 4, silent vehicles, more than two that stand."""
+    words, stand = "answers 100", "0,{},{},0,0,2,0,10,55000"
+    three = filled(*(stand.format(time, vid) for time, vid in sorted(
+        [(time, vid) for time in (0, 30, 60, 90) for vid in (1, 2)] + [(time, 3) for time in (10, 40, 70, 100)])),
+        "0,130,1,30,0,2,0,10,55440", "0,160,2,30,0,2,0,10,55440")
+    return {
+        "one of fifty-one in lane 4": by_any_workers(
+            words, crowd(1, 50, 30) + filled("0,0,51,30,0,4,0,10,52800") + COMES,
+            told(50) + "0,100,60,30,2\n# answered day 100 tuples 52 notices 51\n"),
+        "charged by lane 4 of another segment": by_any_workers(
+            words, FIFTY_ONE + COMES + filled("0,90,100,30,0,4,0,11,58080", "2,100,100,-1,-1,-1,-1,-1,-1,9"),
+            told(51) + "0,100,60,30,2\n2,100,9,2\n# answered day 100 tuples 54 notices 53\n"),
+        "two that never report again": by_any_workers(
+            words, PAIR + filled("0,3600,3,50,0,1,0,10,52800"),
+            "0,1,0,-1,0\n0,2,0,-1,0\n1,3600,3,10\n0,3,3600,-1,0\n# answered day 100 tuples 9 notices 4\n"),
+        "the log of three, of which two leave": [run("accidents", "90,159,0,0,2,10,55000\n", 0, three)],
     }
 
 
@@ -480,9 +552,9 @@ def statement(counts, digest, notices, tariffs, total):
             f"tariffs {tariffs}\ntotal {total}\n" + of_ways)
 
 
-@table
+@over_files()
 def what_is_kept_by_commands():
-    """What commands keep and tell of it, one after the other; the same rows stand in example_office, over other keepers too."""
+    """What commands keep and tell of it, one after the other."""
     nothing = statement((0, 0, 0), EMPTY, EMPTY, EMPTY, 0)
     charged = FIFTY_ONE + LEAVES
     day = "666b2653813265096661d01ac7f9fe12bfaa7a34dbef27d29f3c255b8d8c59df"
@@ -550,6 +622,126 @@ def what_is_kept_by_commands():
                 "2,0,9,0\n0,2,0,-1,0\n0,1,30,-1,0\n# stored day 100 tuples 3 notices 3 total 0\n", 0, turned),
             run("export 100", "vid,day,xway,tolls\n"),
         ],
+    }
+
+
+# A history of vehicle 7, and day 100 with an amount each of the vehicles 7 and 8, as another hand puts them.
+OF_7 = "7,69,0,28\n7,1,0,5\n"
+OF_7_DIGEST = hashlib.sha256(OF_7.encode()).hexdigest()
+HISTORY_BY_HAND = f"""INSERT INTO past VALUES (1, 100, x'{OF_7_DIGEST}', 18, 2);
+INSERT INTO spent VALUES (31, 7, 0, 28), (99, 7, 0, 5);"""
+DAY_BY_HAND = f"""INSERT INTO days VALUES (100, x'{EMPTY}', 40, 2, 1, x'{EMPTY}', 5);
+INSERT INTO spent VALUES (100, 8, 1, 2), (100, 7, 0, 3);"""
+SEAL_BY_HAND = f"INSERT INTO day_tariffs VALUES (100, x'{EMPTY}');"
+BOTH_BY_HAND = HISTORY_BY_HAND + DAY_BY_HAND + SEAL_BY_HAND
+KEPT_DAY = statement((40, 2, 1), EMPTY, EMPTY, EMPTY, 3).replace("total 3", "total 5") + f"xway   1 {2:20}\n"
+OF_100 = "3,0,7,-1,0,-1,-1,-1,-1,1,-1,-1,-1,-1,69\n"
+OF_101 = "".join(f"3,0,{vid},-1,{xway},-1,-1,-1,-1,{qid},-1,-1,-1,-1,{back}\n"
+                 for qid, (vid, xway, back) in enumerate([(7, 0, 1), (7, 0, 2), (7, 0, 3), (8, 1, 1)]))
+# Each question that a command may ask of what is kept, with its answer of these; by name, so that a row can change some.
+ASKED = {
+    "days": run("days", f"day 100 tuples 2 notices 1 total 5 digest {EMPTY[:16]}\n# days 1 last 100\n"),
+    "day": run("day 100", KEPT_DAY),
+    "export": run("export 100", "vid,day,xway,tolls\n7,100,0,3\n8,100,1,2\n"),
+    "past": run("past 100", "# already past base 100 rows 2\n", 0, OF_7),
+    "passed": run("import 99", "# passed day 99 last 100\n", 3),
+    "oldest": run("answers 100", "3,0,1,28\n# answered day 100 tuples 1 notices 1\n", 0, OF_100),
+    "amounts": run("answers 101", "3,0,0,3\n3,0,1,5\n3,0,2,0\n3,0,3,2\n# answered day 101 tuples 4 notices 4\n", 0, OF_101),
+    "charges": run("charges 1 1000000", "vid,xway,tolls\n7,0,36\n8,1,2\n"),
+    "vehicle": run("vehicle 7 31 100", f"vehicle 7 days 31 to 100\n     31   0 {28:20}\n     99   0 {5:20}\n    100   0 {3:20}\n"
+                                       f"total{36:27}\n"),
+    "other vehicle": run("vehicle 8 31 100", f"vehicle 8 days 31 to 100\n    100   1 {2:20}\ntotal{2:27}\n"),
+    "tariffs": run("tariffs", ""),
+}
+
+
+# What asks for the record of the day, for its amounts, for one amount, and for the last day.
+OF_THE_DAY, OF_ITS_ROWS = ("days", "day", "export", "charges"), ("day", "export", "charges")
+OF_AMOUNTS, OF_THE_LAST = ("oldest", "amounts"), ("days", "passed", "charges")
+
+
+def asked(*faults, cause=None, **others):
+    """The questions, of which some are keeper's faults and some have another answer."""
+    changed = {name: dataclasses.replace(ASKED[name], text="# keeper fault\n", status=6, cause=cause) for name in faults}
+    return list((ASKED | changed | {name.replace("_", " "): run for name, run in others.items()}).values())
+
+
+@over_files()
+def what_another_hand_put():
+    """What commands tell of a history and a day that another hand put, and of rows that no command writes."""
+    many = sorted([(vid, 0, 3) for vid in range(7, 1031)] + [(vid, 1, 2) for vid in range(8, 1032)])
+    doubled = "".join(f"INSERT INTO spent SELECT day, vid + {1 << n}, xway, tolls FROM spent WHERE day = 100;" for n in range(10))
+    sums = f"xway   0 {3072:20}\nxway   1 {2048:20}\n"
+    of_many = asked(
+        days=run("days", f"day 100 tuples 2 notices 1 total 5120 digest {EMPTY[:16]}\n# days 1 last 100\n"),
+        day=run("day 100", KEPT_DAY.partition("total")[0] + "total 5120\n" + sums),
+        export=run("export 100", "vid,day,xway,tolls\n" + "".join(f"{vid},100,{xway},{tolls}\n" for vid, xway, tolls in many)),
+        charges=run("charges 1 1000000", "vid,xway,tolls\n7,0,36\n" + lines(*(",".join(map(str, it)) for it in many[1:]))),
+        other_vehicle=run("vehicle 8 31 100", f"vehicle 8 days 31 to 100\n    100   0 {3:20}\n    100   1 {2:20}\ntotal{5:27}\n"))
+    no_day = {"day": run("day 100", "# no day 100\n", 3), "export": run("export 100", "# no day 100\n", 3)}
+    rows = {
+        "a history and a day": ("", asked()),
+        "a tariff besides": ("INSERT INTO tariffs VALUES (3, 50, 40, 5)", asked(tariffs=run("tariffs", "3,50,40,5\n"))),
+        "a row of the benchmark's tariff": ("INSERT INTO tariffs VALUES (0, 50, 40, 2)", asked()),
+        "an amount more for each of 1,023 vehicles": (doubled + "UPDATE days SET total = 5120", of_many),
+        "a digest of one byte": ("UPDATE days SET digest = x'00'", asked(*OF_THE_DAY)),
+        "a number of bytes of -1": ("UPDATE days SET bytes = -1", asked(*OF_THE_DAY)),
+        "a day without its seal": ("DELETE FROM day_tariffs", asked(*OF_THE_DAY)),
+        "the day 2^32": ("UPDATE days SET day = 4294967296", asked(*OF_THE_LAST, **no_day)),
+        "a history of base 69": ("UPDATE past SET base = 69", asked("days", "past")),
+        "a tariff of speed 101": ("INSERT INTO tariffs VALUES (0, 50, 101, 2)", asked("tariffs", *OF_AMOUNTS)),
+    }
+    return {name: [ByHand(BOTH_BY_HAND + text), *runs] for name, (text, runs) in rows.items()}
+
+
+# Two vehicles that leave the crowded stretch, so that both are charged.
+TWO_LEAVE = filled(*(f"0,{time},{vid},30,0,1,0,{segment},{place}" for time, segment, place in ((60, 10, 52800), (90, 11, 58080))
+                     for vid in (100, 101)))
+TWO_LEFT = told(51) + "0,100,60,30,2\n0,101,60,30,2\n0,100,90,-1,0\n0,101,90,-1,0\n"
+
+
+@over_files()
+def puts_that_are_refused():
+    """An amount of a day that is not kept, which another hand put; what comes behind it, and once it is gone."""
+    day = FIFTY_ONE + TWO_LEAVE
+    of_101 = run("vehicle 101 1 100", f"vehicle 101 days 1 to 100\n    100   0 {9:20}\ntotal{9:27}\n")
+    return {"the last amount of a day is there already": [
+        ByHand("INSERT INTO spent VALUES (100, 101, 0, 9)"),
+        run("days", "# days 0 last 0\n"),
+        of_101,
+        Run(("import", "100"), TWO_LEFT + "# keeper fault\n", 6, day, cause=ODD_ROW),
+        run("days", "# days 0 last 0\n"),
+        of_101,
+        ByHand("DELETE FROM spent"),
+        run("import 100", TWO_LEFT + "# stored day 100 tuples 55 notices 55 total 4\n", 0, day),
+        run("export 100", "vid,day,xway,tolls\n100,100,0,2\n101,100,0,2\n"),
+    ]}
+
+
+@over_files("ours")
+def files_as_they_are_found():
+    """Files of version 1, of other tables or of a spoiled page, and one without the log that lay beside it."""
+    without_key = """DROP TABLE spent;
+CREATE TABLE spent (day INTEGER NOT NULL, vid INTEGER NOT NULL, xway INTEGER NOT NULL, tolls INTEGER NOT NULL) STRICT;
+INSERT INTO spent VALUES (100, 7, 0, 3), (100, 7, 0, 2);"""
+    empty = run("day 100", statement((0, 0, 0), EMPTY, EMPTY, EMPTY, 0))
+    empty_day = f"INSERT INTO days VALUES (100, x'{EMPTY}', 0, 0, 0, x'{EMPTY}', 0)"
+    none = run("answers 100", "3,0,1,0\n# answered day 100 tuples 1 notices 1\n", 0, OF_100)
+    no_amount = run("vehicle 8 31 100", f"vehicle 8 days 31 to 100\ntotal{0:27}\n")
+    return {
+        "version 1 with a history and a day": [ByHand(HISTORY_BY_HAND + DAY_BY_HAND, 1), *asked(), *asked()],
+        "version 1 with a day without a line": [
+            ByHand(empty_day, 1), empty, empty, run("import 100", "# already day 100 tuples 0 notices 0 total 0\n")],
+        "two amounts of one key, in a table without that key": [
+            ByHand(BOTH_BY_HAND + without_key),
+            *asked(*OF_ITS_ROWS, "amounts", "vehicle", cause=ODD_ROW, oldest=none, other_vehicle=no_amount)],
+        "no table of tariffs": [ByHand(BOTH_BY_HAND + "DROP TABLE tariffs"), *asked("tariffs", *OF_AMOUNTS, cause=ODD_ROW)],
+        "the page on which the index begins is spoiled": [
+            ByHand(BOTH_BY_HAND), Turned(4), *asked(*OF_ITS_ROWS, *OF_AMOUNTS, "vehicle", "other vehicle")],
+        "a day whose file is alone": [
+            run("import 100", LEFT + STORED, 0, FIFTY_ONE + LEAVES), Alone(),
+            run("export 100", "vid,day,xway,tolls\n100,100,0,2\n"),
+            run("import 100", STORED.replace("stored", "already"), 0, FIFTY_ONE + LEAVES)],
     }
 
 

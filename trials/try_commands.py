@@ -3,12 +3,13 @@
 
     python3 trials/try_commands.py PROGRAM
 
-PROGRAM is the executable toll_office. The rows stand in `rows_of_commands.py`. What a command must write of the days is
-worked out here, from the days themselves, from what `examples/plain.c` says of them, which is compiled, and from what the
-other commands wrote. The example day is kept as day 100 behind its history, and the hundred days are 100 to 199, each of the
-same traffic that a seed makes. Last of all the list of differences of `audit --show` is compared with one worked out here,
-over notices that were changed at random. The script ends with status 1 at the first difference, and says how many rows and
-commands it ran.
+PROGRAM is the executable toll_office. The rows stand in `rows_of_commands.py`; some run over each kind of kept file, which
+Python's sqlite3 makes and changes. Which commands make the file is tried, reads of standard input that fail, and too little
+room for what is written (`fail_streams.c`). What a command must write of the days is worked out here, from the days themselves,
+from what `examples/plain.c` says of them, which is compiled, and from what the other commands wrote. The example day is kept as
+day 100 behind its history, and the hundred days are 100 to 199, each of the same traffic that a seed makes. Last of all the
+list of differences of `audit --show` is compared with one worked out here, over notices that were changed at random. The script
+ends with status 1 at the first difference, and says how many rows and commands it ran.
 """
 import collections
 import csv
@@ -20,8 +21,8 @@ import subprocess
 import sys
 import tempfile
 
-from office import DATA, Office, compiled, expect
-from rows_of_commands import RELATIONS, TABLES
+from office import DATA, Office, change_by_hand, compiled, expect, preloaded, tables
+from rows_of_commands import FILES, KINDS, NOTICE, ONE, RELATIONS, TABLES, Alone, ByHand, Run, Turned
 
 FIRST, LAST, BASE = 100, 199, 200
 RAN = collections.Counter()
@@ -137,7 +138,8 @@ def example(office, plain):
     """Each command on the example day."""
     day, past = (DATA / "day.csv").read_text(), (DATA / "past.csv").read_text()
     rows = [line for line in past.splitlines() if line and not line.endswith(",0")]
-    expect("past", office.run("past", FIRST, text=past), ([], f"# past base {FIRST} rows {len(rows)}"))
+    for said in ("past", "already past"):
+        expect(said, office.run("past", FIRST, text=past), ([], f"# {said} base {FIRST} rows {len(rows)}"))
     said = subprocess.run([plain, DATA / "past.csv"], input=day, text=True, stdout=subprocess.PIPE, check=True).stdout
     notices = said.splitlines()
     tuples = sum(1 for line in day.splitlines() if line)
@@ -146,9 +148,10 @@ def example(office, plain):
     said = subprocess.run([plain, "charges", str(FIRST)], input=day, text=True, stdout=subprocess.PIPE, check=True).stdout
     charged = said.splitlines()
     compare(office, FIRST, day, notices)
-    lines, closing = office.run("import", FIRST, text=day)
+    lines, closing = office.run("import", FIRST, "--workers", 64, "--turns", 2, text=day)
     total = sum(int(row[3]) for row in read_csv(charged))
     expect("import", (lines, closing), (notices, f"# stored day {FIRST} {counts} total {total}"))
+    expect("import again", office.run("import", FIRST, text=day), ([], f"# already day {FIRST} {counts} total {total}"))
     expect("export", office.run("export", FIRST), (charged, None))
     digest = hashlib.sha256(day.encode()).hexdigest()
     line = f"day {FIRST} {counts} total {total} digest {digest[:16]}"
@@ -220,6 +223,82 @@ def each_row(program, top):
     return count
 
 
+def change(kept, step, before, behind):
+    """Another hand changes the kept file, which it makes first if it is not there."""
+    if isinstance(step, Alone):
+        kept.with_name("tolls.db-wal").unlink(missing_ok=True)
+    elif isinstance(step, Turned):
+        data = bytearray(kept.read_bytes())
+        data[(step.page - 1) * 4096] ^= 0xFF
+        kept.write_bytes(data)
+    else:
+        ours = list(tables().values())
+        ours = ours[:3] if step.version == 1 else [*ours, "INSERT INTO form VALUES (1, 2)"]
+        change_by_hand(kept, [] if kept.exists() else [before, *ours, behind], step.text)
+
+
+def each_file(program, top):
+    """Runs the rows that are told before, each over some kinds of kept file; answers how many, a kind of file each."""
+    count = 0
+    for name, (table, kinds) in FILES.items():
+        for row, steps in table().items():
+            for kind in kinds:
+                count += 1
+                office = Office(program, top / f"{name}-{count}")
+                kept = office.folder / "tolls.db"
+                before, behind, cause = KINDS[kind]
+                if kind != "ours":
+                    change(kept, ByHand(""), before, behind)
+                for it in steps:
+                    if not isinstance(it, Run):
+                        change(kept, it, before, behind)
+                        continue
+                    RAN[it.words[0]] += 1
+                    said = f"toll_office: tolls.db: {it.cause or cause}\n" if it.status == 6 else ""
+                    found = office.told(*it.words, text=it.given)
+                    expect(f"{row}, {kind}, by {it.words}", found, (it.status, it.text, said))
+    return count
+
+
+def makes_a_file(program, top):
+    """Which commands make the kept file in a new folder, and which do not; answers how many."""
+    none = [("check 100", ONE, 0), ("accidents", ONE, 0), ("generate 1 --vehicles 3 --minutes 1", "", 0),
+            ("rehearse 1 --vehicles 3 --minutes 1", "", 0), ("day", "", 1), ("answers 69", ONE, 1)]
+    some = [("answers 100", ONE, 0), ("import 100", ONE, 0), ("validate 100", ONE, 0), ("audit 100", ONE, 0), ("past 100", "", 0),
+            ("renew 100", "", 0), ("tariff 0 50 40 5", "", 0), ("tariffs", "", 0), ("days", "", 0), ("day 100", "", 3),
+            ("export 100", "", 3), ("vehicle 7 1 100", "", 0), ("charges 1 100", "", 0)]
+    for at, (words, given, status) in enumerate(none + some):
+        office = Office(program, top / f"file-{at}")
+        office.notices([NOTICE.strip()])
+        office.run(*words.split(), text=given, status=status)
+        expect(f"{words}: it makes the file", (office.folder / "tolls.db").exists(), at >= len(none))
+    return len(none + some)
+
+
+def faults(program, top):
+    """A day of which each read of standard input fails in turn, and a report for whose answer there is room for so many bytes;
+    answers how many."""
+    library, count = preloaded("fail_streams", top), 0
+    day = Office(program, top / "made").run("generate", 5, "--minutes", 10, "--vehicles", 2000)
+    reads = -(-len(day) // 65536)
+    for number in range(reads + 1):
+        office = Office(program, top / f"read-{number}")
+        status, out, said = office.told("import", FIRST, text=day, LD_PRELOAD=library, READS=str(number))
+        wanted = (4, "# read fault", "toll_office: standard input or notices.txt cannot be read\n")
+        expect(f"read {number} of {reads} fails", (status, out.splitlines()[-1], said), wanted)
+        expect(f"read {number} of {reads} failed", office.told("day", FIRST), (3, f"# no day {FIRST}\n", ""))
+        count += 1
+    whole = NOTICE + f"# stored day {FIRST} tuples 1 notices 1 total 0\n"
+    for room in range(len(whole)):
+        office = Office(program, top / f"room-{room}")
+        found = office.told("import", FIRST, text=ONE, LD_PRELOAD=library, ROOM=str(room))
+        expect(f"room for {room} bytes", found, (5, whole[:room], ""))
+        kept = whole.replace("stored", "already")[len(NOTICE):] if room >= len(NOTICE) else whole
+        expect(f"behind room for {room} bytes", office.run("import", FIRST, text=ONE), kept)
+        count += 1
+    return count
+
+
 def each_relation(program, top):
     """Runs the rows that one run tells of another; answers how many."""
     count = 0
@@ -244,7 +323,7 @@ def main():
     program = str(pathlib.Path(sys.argv[1]).resolve())
     with tempfile.TemporaryDirectory() as folder:
         top = pathlib.Path(folder)
-        count = each_row(program, top) + each_relation(program, top)
+        count = sum(it(program, top) for it in (each_row, each_file, makes_a_file, faults, each_relation))
         example(Tried(program, top / "example"), compiled("plain", top))
         hundred(Tried(program, top / "hundred"))
     print(f"{count} rows by hand; {sum(RAN.values())} runs of {len(RAN)} commands, as they must be")

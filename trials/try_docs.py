@@ -3,15 +3,15 @@
 
     python3 trials/try_docs.py OFFICE [SERVE] [--kit] [--page docs/USE.md ..]
 
-OFFICE is the executable toll_office, SERVE is toll_serve; without it what needs the server is passed over. Each page is run by
-one shell, in a copy of the repository's example data, documents, scripts and programs, which are found only where the page puts
-them on the path. A block ```console has lines `$ command`, and `> ` where one goes on, each with the lines that it must print; in
-a block without a name a command may be followed by two blanks, `# ` and the one line that it must print, or by a text that says
-what it does. `..` stands for anything. What is run for a command between backticks, behind the blocks of its page, is said by
-INLINE below, which must name each. With --kit the copy is a clone, and the commands of the kit are run too, but for the gate:
-tools/unproved.py, and tools/build.py, which takes a minute if the kit has kept what it proves, and else up to an hour for each
-program. The script ends with status 1 if a command prints something else, if one whose text is not said ends with a status above
-8, or if one is not named.
+OFFICE is the executable toll_office, SERVE is toll_serve; without it what needs the server is passed over. Each page is run
+by one shell, in a copy of the repository's example data, documents, scripts and programs, which are found only where the page
+puts them on the path. A block ```console has lines `$ command`, and `> ` where one goes on, each with the lines that it must
+print; in a block without a name, where each line is one, a command may be followed by two blanks, `# ` and the one line that
+it must print, or by a text that says what it does. In a block of another name none may stand. `..` stands for anything. What
+is run for a command between backticks, behind the blocks of its page, is said by INLINE below, which must name each. With
+--kit the copy is a clone, and the commands of the kit are run too, but for the gate: tools/unproved.py, and tools/build.py,
+which takes a minute if the kit has kept what it proves, and else up to an hour for each program. The script ends with status
+1 if a command prints something else, if one whose text is not said ends with a status above 8, or if one is not named.
 """
 import argparse
 import os
@@ -30,13 +30,19 @@ PAGES = ["README.md", "docs/USE.md", "docs/HTTP.md", *sorted(f"docs/{it.name}" f
                                                            if it.name not in ("USE.md", "HTTP.md"))]
 MARK = "--- the end of a command ---"
 GATE = ".ci/run"
-FIRST = 'mkdir "$OLD/room" && cp "$OLD"/crates/example_office/data/*.csv "$OLD/room" && cd "$OLD/room"'
+FIRST = 'mkdir "$OLD/room" && cp "$OLD"/examples/day/*.csv "$OLD/room" && cd "$OLD/room"'
 DAY = "# stored day 100 tuples 1137 notices 341 total 16416"
 
 # what a command prints of which the page says only what it does
 PRINTS = {
     "python3 tools/unproved.py toll_office ../unproved": "../unproved/toll_office: built in .. minutes, and NOT PROVED",
     "python3 tools/build.py": "..crates/toll_office/out/toll_office\nproved and built in .. minutes",
+}
+
+# what is run for a command that takes long: the same over less
+SMALLER = {
+    "python3 bench/run.py crates/toll_office/out/toll_office --days 1000000,classic,greatest --workers 1,4 --runs 5":
+        "python3 bench/run.py crates/toll_office/out/toll_office --days 2000 --workers 1,4 --runs 1 --folder days",
 }
 
 # what comes before a page's commands: README shows a run before it says how to build. $OLD is the top of the copy
@@ -59,7 +65,18 @@ INLINE = {
     "rt ci": None, "rt try": None, "rt run": None, "rt check": None, "rt doc": None,
     "rt check --start": None, "rt check --only=": None, "rt check --only path::to::function": None, "rt lemma WORDS": None,
     "rt try --test": None, "rt fmt": None, "rt ci NAME": None, "python3 tools/edits.py NAME": None, "tools/figures.py LOG": None,
-    "git show --stat": None,
+    "git show --stat": None, "contracts.py --missing": None, "make install": None, "trials/try_page.py --serve": None,
+    # the gate is who runs these
+    ".ci/run --documents": None, ".ci/run --checks": None,
+    "make install PREFIX=FOLDER": [
+        ('make -s -C "$OLD" install PREFIX="$PWD/installed" && ls installed/bin installed/share/man/man1 | tr "\\n" " "',
+         "installed/bin: toll_office toll_serve  installed/share/man/man1: toll_office.1 toll_serve.1 ")],
+    "make release": [
+        ('(cd "$OLD"; git rev-parse -q --verify HEAD > commit 2>&1 || (git init -q && git -c user.name=room -c user.email=room@localhost '
+         'commit -q --allow-empty -m room); make -s release | cut -c 67-)', "ductchervil-..-linux-x86_64.tar.gz"),
+        ('(cd "$OLD"/dist/ductchervil-*/ && sha256sum --quiet -c SHA256SUMS && ls)', "..README.md..bin..")],
+    "grep -w NAME crates.txt": [('grep -c -w road_time "$SOURCE/crates.txt"', "..")],
+    "ulimit -n": [("ulimit -n | wc -l", "1")],
     # the gate runs these with --check
     "python3 tools/check_words.py": None, "python3 tools/contracts.py": None, "tools/contracts.py --missing": None,
     "tools/places.py Asked::Days": [('python3 "$SOURCE/tools/places.py" Asked::Days | head -n 1', "code: ..")],
@@ -101,8 +118,10 @@ INLINE = {
         ("toll_office day 200", "# no day 200"),
         ("toll_office import 200 < long.csv | tail -n 1", "# stored day 200 ..")],
 }
-PROGRAMS = (r"(toll_office|toll_serve|rt|curl|man|source|set|sed|head|tail|pv|git|sqlite3|sha256sum|python3|"
-            r"(?:scripts|tools)/\w+\.(sh|py)|\(?cd|cp)")
+PROGRAMS = (r"(toll_office|toll_serve|rt|curl|man|source|set|sed|head|tail|pv|git|sqlite3|sha256sum|python3|make|grep|ulimit|cc|"
+            r"(?:(?:scripts|tools|trials|bench)/)?\w+\.(?:sh|py)|\.ci/run|\(?cd|cp)")
+# kinds of blocks in which no command stands
+OTHERS = ("text", "nginx", "sql")
 
 
 def fits(found, wanted):
@@ -120,6 +139,8 @@ def blocks(page):
             found.append([])
         elif kind in ("plain", "console"):
             found[-1].append((at, line))
+        elif kind is not None and (kind not in OTHERS or re.match(PROGRAMS + " ", line)):
+            sys.exit(f"{page.name}:{at}: a command in a block `{kind}`, or a kind of block that is not known")
     return [it for it in found if it]
 
 
@@ -138,8 +159,7 @@ def commands(page):
         else:
             for at, line in block:
                 command, _, said = line.partition("  # ")
-                if re.match(r"(toll_|mkdir|export|cd |cp |python3|curl|rt |\.ci/|\()", command):
-                    found.append((at, command.strip(), [said] if said.startswith(("#", "{", "total")) else None))
+                found.append((at, command.strip(), [said] if said.startswith(("#", "{", "total")) else None))
     return [(at, command, PRINTS.get(command) if said is None else "\n".join(said).rstrip("\n")) for at, command, said in found]
 
 
@@ -158,10 +178,10 @@ def room(folder, office, serve, kit):
     if kit:
         subprocess.run(["git", "clone", "-q", TOP, top], check=True)
     else:
-        (top / "crates").mkdir(parents=True)
-        shutil.copytree(TOP / "crates/example_office/data", top / "crates/example_office/data")
-        shutil.copytree(TOP / "docs", top / "docs")
-        for it in ("examples", "scripts", "tools"):
+        top.mkdir()
+        for it in ("Makefile", "VERSION", "KIT", "README.md", "CHANGELOG.md"):
+            shutil.copy(TOP / it, top)
+        for it in ("bench", "docs", "examples", "scripts", "tools"):
             shutil.copytree(TOP / it, top / it, ignore=shutil.ignore_patterns("edits"))
     for name, program in (("toll_office", office), ("toll_serve", serve)):
         if program:
@@ -207,14 +227,14 @@ def passed_over(command, given):
     """Whether a command needs what is not there: a tool, the kit, hours, or the server."""
     if command.startswith("git -C") and not (TOP / ".git").exists():
         return True
-    tools = re.findall(r"(?:^|[|;&(] ?)(rt|man|sqlite3|git|curl)(?= )", command)
+    tools = re.findall(r"(?:^|[|;&(] ?)(rt|man|sqlite3|git|curl|make|cc)(?= )", command)
     if any(not shutil.which(it) for it in tools):
         return True
     if command.startswith("rt version"):
         return False
     if needs_kit(command):
         return not given.kit or command.startswith(GATE)
-    return not (given.serve or given.kit) and re.search(r"toll_serve 0|out/toll_serve|curl", command) is not None
+    return not (given.serve or given.kit) and re.search(r"toll_serve 0|out/toll_serve|curl|make ", command) is not None
 
 
 def tried(page, name, given):
@@ -238,7 +258,8 @@ def tried(page, name, given):
                 continue
             run += 1
             shell.run(BEFORE.get(command, ":"), 60)
-            text, status = shell.run(re.sub(r"\b8080\b", port, command), 14400 if needs_kit(command) else 300)
+            told = re.sub(r"\b8080\b", port, SMALLER.get(command, command))
+            text, status = shell.run(told, 14400 if needs_kit(command) else 300)
             if given.loud:
                 print(f"{page.name}:{at}: {command}\n{text}")
             if status > 8 if wanted is None else not fits(text, re.sub(r"\b8080\b", port, wanted)):

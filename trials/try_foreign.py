@@ -4,8 +4,9 @@
     python3 trials/try_foreign.py PROGRAM
 
 PROGRAM is the executable toll_office. python's sqlite3 makes each file under the name of the kept file: a file of
-another hand, a mixture of tables, a later version, a kept day without its seal; others are no database, locked by
-another program, linked, not to be written to, on a full disk, or in a folder that is gone. Each command that comes
+another hand, a mixture of tables, one table more or less, a later version, a kept day without its seal; others are no
+database, locked by another program, replaced under a command, empty beside a log with pages, linked, not to be written
+to, on a full disk, or in a folder that is gone. Each command that comes
 upon one must end with status 6 and the closing line of a keeper's fault, say the cause in one line on standard error,
 and leave the bytes of the file as they were. Beside them a file of version 1 and one without tables must be taken
 over and made, a source that fails and a close that fails must be said, and what goes well must be silent. A row of a
@@ -60,6 +61,10 @@ ODD_ROW = "a row of it is not as these programs write it"
 UNOPENED = "it cannot be opened"
 UNREADABLE = "a page or a row of it is spoiled, or the disk failed"
 NO_ROOM = "there is no room for it on the disk"
+REPLACED = "it was replaced, removed or emptied while it was open, or its log was, or it got a second name"
+EMPTIED = "it is empty or missing, but its log is not: put the file back, or move the log away"
+# a log that has pages is longer than this
+NO_PAGE = 41
 
 
 TABLES = tables()
@@ -88,6 +93,13 @@ ODD = {
     "a day without its seal, in pages of 512 bytes": (["PRAGMA page_size = 512"] + ALL + [A_DAY, SECOND], OF_A_DAY, ODD_ROW),
     "a tariff of no expressway": (ALL + [A_DAY, SEAL, SECOND, "INSERT INTO tariffs VALUES (256, 50, 40, 5)"], OF_TARIFFS,
                                   UNREADABLE),
+    "no table of tariffs": ([it for it in ALL if it != TABLES["tariffs"]] + [A_DAY, SEAL, SECOND], OF_TARIFFS, ODD_ROW),
+    "no table of seals": ([it for it in ALL if it != TABLES["day_tariffs"]] + [A_DAY, SECOND], OF_A_DAY, ODD_ROW),
+    "a table more": (ALL + [A_DAY, SEAL, SECOND, "CREATE TABLE notes (id INTEGER PRIMARY KEY)"], ("renew 101",), NOT_OURS),
+    "an index more": (ALL + [A_DAY, SEAL, SECOND, "CREATE INDEX by_tolls ON spent (tolls)"], ("renew 101",), NOT_OURS),
+    "pages of 512 bytes": (["PRAGMA page_size = 512"] + ALL + [A_DAY, SEAL, SECOND], ("renew 101",), NOT_OURS),
+    "a trigger on the days": (ALL + [A_DAY, SEAL, SECOND, "CREATE TRIGGER told AFTER INSERT ON days BEGIN DELETE FROM tariffs; END"],
+                              (*OF_A_DAY, "past 100", "charges 1 100", "renew 101"), ODD_ROW),
     "a history of base 69": (ALL + [SECOND, ("INSERT INTO past VALUES (1, 69, ?, 0, 0)", (DIGEST,))], OF_A_HISTORY,
                              UNREADABLE),
 }
@@ -213,6 +225,48 @@ def in_use(program):
     print(f"left alone: a file in use, by {len(COMMANDS)} commands, and put to once it was free")
 
 
+def replaced_under(program):
+    """The file is replaced under a command that waits for its input."""
+    with tempfile.TemporaryDirectory() as folder:
+        kept = pathlib.Path(folder) / "tolls.db"
+        make(kept, OURS)
+        held = subprocess.Popen([program, "import", "101"], cwd=folder, stdin=subprocess.PIPE, stdout=subprocess.PIPE,
+                                stderr=subprocess.PIPE, text=True)
+        while run(program, folder, "tariffs --wait 0", "")[0] != 6:
+            time.sleep(0.05)
+        # it has the file; a moment later it has asked it all that comes before the input
+        time.sleep(0.5)
+        before = kept.read_bytes()
+        kept.with_name("copy").write_bytes(before)
+        os.replace(kept.with_name("copy"), kept)
+        out, err = held.communicate(LINE, timeout=60)
+        if (held.returncode, out, err) != (6, f"{NOTICE}# keeper fault\n", f"toll_office: tolls.db: {REPLACED}\n"):
+            fail(f"a file that is replaced: status {held.returncode}, {out!r}, {err!r}")
+        if kept.read_bytes() != before:
+            fail("a file that is replaced: the new one is not what it was")
+    print("left alone: a file that took the place of the one that a command has open")
+
+
+def emptied(program):
+    """A log with pages lies beside an empty file, or beside none; a shorter one has none, and the file is made."""
+    for name, text in (("an empty file", b""), ("no file", None)):
+        for words in COMMANDS:
+            with tempfile.TemporaryDirectory() as folder:
+                kept, log = pathlib.Path(folder) / "tolls.db", pathlib.Path(folder) / "tolls.db-wal"
+                make(kept, OURS)
+                kept.unlink()
+                if text is not None:
+                    kept.write_bytes(text)
+                log.write_bytes(bytes(NO_PAGE + 1))
+                refused(program, folder, f"{name} beside a log with pages", words, EMPTIED)
+                if log.read_bytes() != bytes(NO_PAGE + 1):
+                    fail(f"{name} beside a log with pages, {words}: the log is not what it was")
+                log.write_bytes(bytes(NO_PAGE))
+                if run(program, folder, "days", "")[:2] != (0, "# days 0 last 0\n"):
+                    fail(f"{name} beside a log without a page: it is not made")
+        print(f"left alone: {name} beside a log with pages, by {len(COMMANDS)} commands")
+
+
 def read_only(program):
     """Another user may read the file, and not write to it."""
     if os.geteuid() != 0:
@@ -328,6 +382,8 @@ def main():
     beside(program, "a folder", NOT_PLAIN, replaced)
     gone(program)
     in_use(program)
+    replaced_under(program)
+    emptied(program)
     read_only(program)
     no_room(program)
     not_closed(program)

@@ -11,6 +11,7 @@ is tried. With --csv all rows are tried, each allocation, and the counts are wri
 has those of crates/tests_office/ROWS.md (`--csv bench/memory.csv`). It wants a C compiler, and is quicker where TMPDIR is in memory.
 """
 import argparse
+import collections
 import concurrent.futures
 import csv
 import datetime
@@ -22,7 +23,13 @@ import subprocess
 import tempfile
 
 from office import DATA, preloaded
+from rows_of_commands import OF_7
 
+# what stood on standard error where an allocation failed, each line with its count; and all that may stand there
+SAID = collections.Counter()
+OF_MEMORY = ("toll_office: memory ran out", "toll_office: tolls.db is not closed, what was put lies in its log: memory ran out")
+OF_FAULTS = {"read": ("toll_office: standard input or notices.txt cannot be read",),
+             "keep": ("toll_office: tolls.db: it is a link, a folder or a device, or has a second name",)}
 GENERATE = "generate 1 --vehicles 20 --minutes 3"
 DAY = ("day 100", "export 100")
 PAST = ("vehicle 7 31 99",)
@@ -53,7 +60,12 @@ class Room:
         if fault == "keep":
             os.mkdir(f"{self.top}/folder/tolls.db")
         child = subprocess.run([self.office[0], *words.split()], cwd=f"{self.top}/folder", env=environment, stdin=source,
-                               stdout=sink, stderr=subprocess.DEVNULL, timeout=120)
+                               stdout=sink, stderr=subprocess.PIPE, text=True, timeout=120)
+        if at is not None:
+            lines = child.stderr.splitlines()
+            if not set(lines) <= {*OF_MEMORY, *OF_FAULTS.get(fault, ())}:
+                raise SystemExit(f"{self.row.name}: allocation {at}: on standard error {lines}")
+            SAID.update(lines)
         os.close(source)
         os.close(sink)
         if fault == "keep":
@@ -150,7 +162,7 @@ def main():
         generate = Row("generate", GENERATE, b"", ())
         status, made, _ = Room(office, top, generate, "made").command()
         assert status == 0, made
-        day, past = (DATA / "charged.csv").read_bytes(), (DATA / "two.csv").read_bytes()
+        day, past = (DATA / "charged.csv").read_bytes(), OF_7.encode()
         rows = [
             Row("charged day", "import 100", day, DAY),
             Row("history", "past 100", past, PAST),
@@ -165,6 +177,7 @@ def main():
             if given.only in row.name:
                 found.append(trials(office, top, row, given))
                 print(told(found[-1]), flush=True)
+        print(*(f"{count} times on standard error: {line}" for line, count in SAID.items()), sep="\n")
         if given.csv:
             write_counts(given.csv, found)
 

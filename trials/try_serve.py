@@ -14,9 +14,9 @@ leave; a day of so many lines again, posted beside 650 silent clients and ten PO
 totals and kept amounts; a POST of a passed day and one of a refused day, whose bodies of some MB come slowly, and a client
 that does not take its answer, beside the next POST; clients that are answered and go on sending; a POST whose body comes a
 byte a second, and one whose body is held back, beside clients that ask for what is kept; 1,024 POSTs in line; the health over
-another's file; clients that vanish; a kill -9 at moments of a POST. The server then ends by its sessions, and Python's `sqlite3`
-reads what it kept. The script ends with status 1 at the first answer that is not the expected one, or that comes late. The faults of
-accept are made by `trials/fail_accept.c`, built by `cc`. With --short what takes long is left out: several expressways, crowds of
+another's file; a file that is mended under the server; clients that vanish; a kill -9 at moments of a POST. The server then ends
+by its sessions, and Python's `sqlite3` reads what it kept. The script ends with status 1 at the first answer that is not the
+expected one, or that comes late. The faults of accept are made by `trials/fail_accept.c`, built by `cc`. With --short what takes long is left out: several expressways, crowds of
 silent clients, faults of accept, POSTs in line, slow clients.
 """
 import argparse
@@ -36,7 +36,7 @@ import tempfile
 import threading
 import time
 
-from office import TOP, compiled, expect, fail, free_port, preloaded
+from office import TOP, change_by_hand, compiled, expect, fail, free_port, preloaded
 
 sys.path.append(str(TOP / "bench"))
 from run import lines_in, make_day  # noqa: E402
@@ -45,6 +45,7 @@ EMPTY = "e3b0c44298fc1c149afbf4c8996fb92427ae41e4649b934ca495991b7852b855"
 LATE = (b"0,10,1,30,0,1,0,10,52800,-1,-1,-1,-1,-1,-1\n"
         b"0,10,2,30,0,1,0,10,52800,-1,-1,-1,-1,-1,-1\n"
         b"0,9,3,30,0,1,0,10,52800,-1,-1,-1,-1,-1,-1\n")
+GOOD = LATE[:LATE.index(b"\n0,9,3,") + 1]
 SILENCE = 30
 AT_ONCE = 1.0
 REFUSED_BODY = 5_000_000
@@ -917,6 +918,23 @@ def try_health(program, folder):
     print("the health is 503 over another's file, and 200 once it is gone")
 
 
+def try_mended(program, folder):
+    """A kept day without its seal is a fault; the file is let go then, so that another hand mends it, and the day is found."""
+    office = pathlib.Path(folder, "tolls.db")
+    server = Server(program, folder, 100)
+    expect("a day", server.ask("POST", "/days/100", GOOD)[0], 200)
+    kept = server.ask("GET", "/days/100")
+    server.end()
+    change_by_hand(office, ["UPDATE day_tariffs SET day = 101"])
+    server = Server(program, folder, 100)
+    for _ in range(2):
+        expect("a day without its seal", server.ask("GET", "/days/100"), (503, "Service Unavailable", '{"error":"keeper"}'))
+    change_by_hand(office, ["UPDATE day_tariffs SET day = 100"])
+    expect("the day, once it has its seal", server.ask("GET", "/days/100"), kept)
+    server.end()
+    print("a day without its seal is 503, and is found by the same server once another hand has mended the file")
+
+
 def try_reads(program, folder, path):
     """Three bodies of a passed day that come slowly, and six clients that ask for kept days and lists over and over, while a day is
     read and stored: who asks for the live total waits for none of them. What is left of the slow bodies has 30 seconds in all."""
@@ -1151,7 +1169,8 @@ def main():
     folder = tempfile.mkdtemp()
     try_words(program)
     try_answers(program, folder)
-    attempts = [try_bodies, try_stream, try_handles, try_threads, try_drains, try_passed, try_checks, try_marks, try_health]
+    attempts = [try_bodies, try_stream, try_handles, try_threads, try_drains, try_passed, try_checks, try_marks, try_health,
+                try_mended]
     for attempt in attempts if given.short else attempts + [try_ways, try_silent, try_faults, try_line, try_full, try_posts]:
         in_a_folder(attempt, program)
     if not given.short:

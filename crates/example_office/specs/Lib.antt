@@ -1,1 +1,0 @@
--- No words of its own: the rows of this example are said in those of the office and its keepers.
