@@ -771,6 +771,11 @@ def passed_by(day):
     return answer_bytes(409, "Conflict", '{"error":"passed","last":%d}' % day)
 
 
+def full_line():
+    fields = "Content-Length: 16\r\nContent-Type: application/json\r\nConnection: close\r\nRetry-After: 10\r\n\r\n"
+    return ("HTTP/1.1 503 Service Unavailable\r\n" + fields + '{"error":"line"}').encode()
+
+
 def percentile(times):
     times = sorted(times)
     return times[int(0.99 * (len(times) - 1))]
@@ -878,7 +883,7 @@ def post_whole(server):
 
 def try_posts(program, folder):
     """A POST whose body is held back, and 1,024 POSTs with whole heads behind it: who asks is answered, also of what is kept, and the
-    first 239 of those in line are when it ends."""
+    first 239 of those in line are when it ends; whoever gave its place is told so."""
     hard = resource.getrlimit(resource.RLIMIT_NOFILE)[1]
     resource.setrlimit(resource.RLIMIT_NOFILE, (min(4096, hard), hard))
     server = Server(program, folder, 5_000, handles=1024)
@@ -892,12 +897,12 @@ def try_posts(program, folder):
     expect("the POST that was held", all_of(wire).split(b"\r\n")[0], b"HTTP/1.1 422 Unprocessable Entity")
     answers = [rest_of(each) for each in line]
     expect("the first in line", answers[:239], [passed_by(100)] * 239)
-    expect("the others", {each for each in answers[239:]} - {passed_by(100)}, {b""})
+    expect("the others", {each for each in answers[239:]} - {passed_by(100)}, {full_line()})
     for each in [wire, *line]:
         each.close()
     server.end()
-    print(f"1,024 POSTs in line behind one that is held back: 99th percentile of live totals {most:.1f} ms; {sum(map(bool, answers))} of them"
-          " were answered, the first ones")
+    print(f"1,024 POSTs in line behind one that is held back: 99th percentile of live totals {most:.1f} ms;"
+          f" {answers.count(passed_by(100))} of them were answered, the first ones, and the others told that the line is full")
 
 
 def try_health(program, folder):

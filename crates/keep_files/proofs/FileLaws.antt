@@ -1,5 +1,5 @@
 -- What a store of files gives where something is opened.
-use Rattle.std.proofs.Common.{◌≡◌, ℕ, List, Option, None, Some, Result, Ok, Err, IfOk, IfSome}
+use Rattle.std.proofs.Common.{◌≡◌, ℕ, List, Result, Ok, Err, IfOk}
 use Rattle.std.proofs.Common.{sym, subst, ap, ◌∙◌}
 use Rattle.sqlite_disk.specs.declared.Disk.{Ghosts}
 use Rattle.sqlite_disk.specs.declared.Files.{Files}
@@ -39,14 +39,6 @@ module _ {D X E : Type 0} (g : Ghosts D) (reaches : List ℕ → Files D → Typ
       → IfOk r (λ x. OfClosed g files (part x)) → IfOk r (λ x. FileGives g reaches (FromStore it) (part x))
   of_stored it closed (Ok x) h = (files, closed, h)
   of_stored it closed (Err e) h = tt
-
--- so was what is there
-pub some_of_stored : {D X : Type 0} (g : Ghosts D) (reaches : List ℕ → Files D → Type 0) (files : Files D)
-    (part : X → Part (Pool D g) (FileStore D g)) (it : FileStore D g) → (files.log, files.db) ≡ store.files it
-    → (r : Option X) → IfSome r (λ x. OfClosed g files (part x))
-    → IfSome r (λ x. FileGives g reaches (FromStore it) (part x))
-some_of_stored g reaches files part it closed (Some x) h = (files, closed, h)
-some_of_stored g reaches files part it closed None h = tt
 
 module _ {D : Type 0} {g : Ghosts D} where
   -- pages that show the same as others show what the files recover to

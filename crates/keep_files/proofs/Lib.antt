@@ -2,6 +2,7 @@ pub mod DoesLaws
 pub mod FileLaws
 pub mod FoundLaws
 pub mod LeftLaws
+pub mod MissedLaws
 pub mod RefuseLaws
 pub mod NameLaws
 pub mod OriginLaws

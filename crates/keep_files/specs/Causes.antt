@@ -1,5 +1,5 @@
 -- Which cause an error of the database is, and what a keeper in a file says of its failures.
-use Rattle.std.specs.Prelude.{◌≡◌, ◌≢◌, Bool, true, false, Option, Result, Ok, Err, IsSome}
+use Rattle.std.specs.Prelude.{◌≡◌, ◌≢◌, Bool, true, false, Option, Some, None, Result, Ok, Err, IsSome}
 use Rattle.std.specs.IoError.{error_kind}
 use Rattle.std.specs.declared.io.ErrorKind.{ErrorKind}
 use Rattle.std.specs.declared.io.ErrorKind.TheVariants as Kind
@@ -13,6 +13,8 @@ use Rattle.sqlite_trees.specs.declared.error.StoreError.{StoreError}
 use Rattle.sqlite_trees.specs.declared.error.StoreError.TheVariants as Store
 use Rattle.sqlite_store.specs.declared.error.OpenError.{OpenError as StoreOpenError}
 use Rattle.sqlite_store.specs.declared.error.OpenError.TheVariants as Checking
+use Rattle.sqlite_wal.specs.declared.error.Error.{Error as LogError}
+use Rattle.sqlite_wal.specs.declared.error.Error.TheVariants as Log
 use Rattle.sqlite_pages.specs.declared.error.Error.{Error as PageError}
 use Rattle.sqlite_pages.specs.declared.error.Error.TheVariants as Page
 use Rattle.keep_office.specs.declared.kept.KeepFault.{KeepFault}
@@ -79,6 +81,21 @@ abbrev pub IsOfChecking : Cause → Type 0
 IsOfChecking cause =
     (error : StoreOpenError) × ((error ≢ Checking.Refused)
     × ((no_room : Bool) × (cause ≡ checking_cause error no_room)))
+
+-- the cause that an error of the log is as a first page is looked at, none where the log is another's
+abbrev pub unread_cause : LogError → Option Cause
+unread_cause Log.OutOfMemory = Some Memory
+unread_cause (Log.Io error) = Some DiskFailed
+unread_cause _ = None
+
+-- the cause that an error of pages is as their trees are looked for, by whether a write found no room; none where they
+-- were read and are another's, or do not hold what they should
+abbrev pub unlisted_cause : Option PageError → Bool → Option Cause
+unlisted_cause (Some Page.OutOfMemory) no_room = Some (checking_cause Checking.OutOfMemory no_room)
+unlisted_cause (Some Page.Io) no_room = Some (checking_cause Checking.Io no_room)
+unlisted_cause (Some Page.Corrupt) no_room = None
+unlisted_cause (Some Page.Full) no_room = None
+unlisted_cause None no_room = None
 
 -- the cause that an error of pages is as they are closed, by whether a write found no room
 abbrev pub close_cause : PageError → Bool → Cause

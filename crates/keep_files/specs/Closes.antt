@@ -1,5 +1,6 @@
 -- What the closing of a file does.
-use Rattle.std.specs.Prelude.{◌≡◌, ◌↔◌, Bool, nat_lt, IsTrue}
+use Rattle.std.specs.Prelude.{◌≡◌, ◌⊎◌, ◌↔◌, Bool, nat_lt, IsTrue, IsSome, IsSomeAnd}
+use Rattle.std.specs.Prelude.{Option, Some, None, Result, Ok, Err}
 use Rattle.sqlite_disk.specs.declared.Disk.{Ghosts}
 use Rattle.sqlite_disk.specs.declared.Files.{Files}
 use Rattle.sqlite_wal.specs.Reads.{AreClean, tally_of_files}
@@ -20,7 +21,7 @@ use Rattle.keep_office.specs.declared.kept.KeepFault.TheVariants.{NoMemory}
 use Rattle.keep_trees.specs.declared.page_trees.PageTrees.{PageTrees}
 use Rattle.keep_database.specs.declared.proved.ProvedKeeper.{ProvedKeeper}
 use Rattle.keep_files.specs.declared.cause.Cause.{Cause}
-use Rattle.keep_files.specs.declared.cause.Cause.TheVariants.{Memory}
+use Rattle.keep_files.specs.declared.cause.Cause.TheVariants.{Memory, Unreadable}
 use Rattle.keep_files.specs.declared.kept.Kept.{Kept}
 use Rattle.keep_files.specs.declared.kept.Kept.TheVariants.{Trees, Whole}
 use Rattle.keep_files.specs.Causes.{IsCauseOf, close_cause}
@@ -70,9 +71,33 @@ module _ {D : Type 0} {g : Ghosts D} where
   IsNotEnded (Trees pool) cause = StaysFull pool cause
   IsNotEnded (Whole conn) cause = StaysOpen conn cause
 
-  -- it was not, with want of memory or a failure as the cause is
-  abbrev pub FailsToEnd : Kept (Pool D g) (Held (FileStore D g)) → KeepFault → Type 0
-  FailsToEnd kept fault = (cause : Cause) × IsNotEnded kept cause × ((fault ≡ NoMemory) ↔ (cause ≡ Memory))
+-- a put that was done holds something, or says at the end why its log was not copied
+abbrev pub IsTellingWhy : {K : Type 0} → Result (Unit {0}) KeepFault → Option K → Option Cause → Type 0
+IsTellingWhy (Ok u) (Some kept) unfolded = Unit {0}
+IsTellingWhy (Ok u) None unfolded = IsSome unfolded
+IsTellingWhy (Err fault) held unfolded = Unit {0}
+
+-- why the log of a store's file was not copied: that was refused for a cause, or the file is not found to be ours, and
+-- so unreadable; nothing is said where something is held
+abbrev pub IsUnfolded : {K : Type 0} → Type 0 → (Cause → Type 0) → Option K → Option Cause → Type 0
+IsUnfolded foreign refuses (Some kept) unfolded = unfolded ≡ None
+IsUnfolded foreign refuses None unfolded =
+    IsSomeAnd unfolded (λ cause. refuses cause ⊎ ((cause ≡ Unreadable) × foreign))
+
+-- a file was closed: what is held was, or nothing is held, and no put lies in its log alone
+abbrev pub IsAllEnded : {P S : Type 0} → (Kept P S → Type 0) → Option (Kept P S) → Option Cause → Type 0
+IsAllEnded ended (Some kept) unfolded = ended kept
+IsAllEnded ended None unfolded = unfolded ≡ None
+
+-- it was not, for a cause: of what is held, or that for which the log was not copied behind a put
+abbrev pub IsNotAllEnded : {P S : Type 0} → (Kept P S → Cause → Type 0) → Option (Kept P S) → Option Cause →
+    Cause → Type 0
+IsNotAllEnded fails (Some kept) unfolded cause = fails kept cause
+IsNotAllEnded fails None unfolded cause = unfolded ≡ Some cause
+
+-- it was not, with want of memory or a failure as the cause is
+abbrev pub FailsToEnd : (Cause → Type 0) → KeepFault → Type 0
+FailsToEnd fails fault = (cause : Cause) × fails cause × ((fault ≡ NoMemory) ↔ (cause ≡ Memory))
 
 -- what is given up of what is held: pages, or a connection
 abbrev pub given_up : {P S : Type 0} → Kept (PageTrees P) (ProvedKeeper S) → Kept P (Held S)

@@ -1,5 +1,5 @@
 -- Why a store of files refuses what is opened.
-use Rattle.std.specs.Prelude.{◌≡◌, ◌⊎◌, ◌&&◌, false, ℕ, List}
+use Rattle.std.specs.Prelude.{◌≡◌, ◌⊎◌, ◌&&◌, false, ℕ, List, Option, Some, None}
 use Rattle.sqlite_disk.specs.declared.Disk.{Ghosts}
 use Rattle.sqlite_disk.specs.declared.Files.{Files}
 use Rattle.sqlite_pool.specs.declared.pool.Pool.{Pool}
@@ -39,6 +39,15 @@ abbrev pub IfFailed : {T : Type 0} → (Cause → Type 0) → Missed T → Type 
 IfFailed so (Foreign back) = Unit {0}
 IfFailed so (Failed cause) = so cause
 
+-- something is not had of what it was looked for in: that is another's, or it is refused for a cause
+abbrev pub IsLost : Type 0 → (Cause → Type 0) → Option Cause → Type 0
+IsLost foreign refuses None = foreign
+IsLost foreign refuses (Some cause) = refuses cause
+
+-- files were looked at for our trees, and are left
+abbrev pub AreLooked : {D : Type 0} (g : Ghosts D) → Files D → Type 0
+AreLooked {D} g files = (left : Files D) × AreLeft g files left
+
 module _ {D : Type 0} (g : Ghosts D) where
   -- files were refused for a cause: they are not to be used, or a database refused to open them
   abbrev pub AreRefused : Files D → Cause → Type 0
@@ -68,3 +77,9 @@ module _ {D : Type 0} (g : Ghosts D) where
       draws cause ⊎ ((files : Files D) × ((files.log, files.db) ≡ pool.files pages) × AreLeftRefused files cause)
   FileRefuses reaches gives draws (FromStore it) cause =
       draws cause ⊎ ((files : Files D) × ((files.log, files.db) ≡ store.files it) × AreLeftRefused files cause)
+
+  -- what is known of what is opened and found not to be exactly ours: its files were looked at, and are left
+  abbrev pub FileIsForeign : Opening (Pool D g) (FileStore D g) → Type 0
+  FileIsForeign (FromPath path) = ⊥
+  FileIsForeign (FromPages pages) = (files : Files D) × ((files.log, files.db) ≡ pool.files pages) × AreLooked g files
+  FileIsForeign (FromStore it) = (files : Files D) × ((files.log, files.db) ≡ store.files it) × AreLooked g files

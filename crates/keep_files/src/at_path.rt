@@ -1,7 +1,7 @@
 // Files that are opened by a path.
 ghost use Rattle.std.specs.Prelude.{◌≡◌, true, false, IfOk, IfErr, OnOk, IsTrue};
 ghost use Rattle.sqlite_std_file.specs.File.{file_is_usable, IsFresh};
-ghost use Rattle.keep_files.specs.declared.cause.Cause.TheVariants.{Unopened};
+ghost use Rattle.keep_files.specs.declared.cause.Cause.TheVariants.{Undrawn, Unopened};
 ghost use Rattle.keep_files.specs.Openings.{IsOfLook, IsOfOpening, NamesNoFile};
 
 use crate::cause::{Cause, cause_of_opening};
@@ -78,7 +78,7 @@ pub trait AtPath: Disk + Drop {
 // be refused.
 impl AtPath for KeptDisk {
     ghost use Rattle.std.specs.Prelude.{◌≡◌, true, false};
-    ghost use Rattle.keep_files.specs.declared.cause.Cause.TheVariants.{Unopened};
+    ghost use Rattle.keep_files.specs.declared.cause.Cause.TheVariants.{Undrawn};
     ghost use Rattle.sqlite_std_file.specs.File.{IsFresh};
     ghost use Rattle.keep_files.specs.Openings.{IsOfLook, IsOfOpening};
 
@@ -86,7 +86,7 @@ impl AtPath for KeptDisk {
 
     ghost refuses = { IsOfOpening };
 
-    ghost undrawn = { λ cause. cause ≡ Unopened };
+    ghost undrawn = { λ cause. cause ≡ Undrawn };
 
     ghost there = { λ path places. Unit {0} };
 
@@ -150,11 +150,11 @@ impl AtPath for Memory {
 
 /// A random number.
 fn drawn(rt: &HostRuntime) -> Result<u64, Cause>
-    ensures { IfErr result (λ cause. cause ≡ Unopened) }
+    ensures { IfErr result (λ cause. cause ≡ Undrawn) }
 {
     match RandomState::new(rt) {
         Ok(random) => Ok(random.hash_one(&0u8)),
-        Err(_) => Err(Cause::Unopened),
+        Err(_) => Err(Cause::Undrawn),
     }
 }
 

@@ -29,6 +29,8 @@ pub enum Cause {
     NotPlain,
     #[error("it cannot be opened")]
     Unopened,
+    #[error("the system gave no random number")]
+    Undrawn,
     #[error("a page of it is spoiled")]
     Spoiled,
     #[error("it is no database of these programs")]

@@ -3,8 +3,8 @@ ghost use Rattle.std.specs.Prelude.{◌≡◌, None, IfOk, IfErr, IfSome, IsSome
 ghost use Rattle.keep_files.specs.Asked.{AskedToRead, AskedToPut, HoldsFound, IsPutBy, IsPutByTrees, IsPutOver};
 ghost use Rattle.keep_files.specs.Asked.{IsReadyOf, IsUnreadOf, PutsReady, ReadsReady};
 ghost use Rattle.keep_files.specs.Causes.{IsSaid};
-ghost use Rattle.keep_files.specs.Closes.{given_up};
-ghost use Rattle.keep_files.specs.Openings.{AsWhole, IsAdopted, LacksTables};
+ghost use Rattle.keep_files.specs.Closes.{IsTellingWhy, IsUnfolded, given_up};
+ghost use Rattle.keep_files.specs.Openings.{AsWhole, FromStore, IsAdopted, LacksTables};
 ghost use Rattle.keep_files.specs.Places.{AreGone, AreThere, IsConfirmed, IsLetGo};
 ghost use Rattle.keep_files.specs.Origins.{FoundAgain, OfFile, PutsNothing, TriesPath, WasAsked};
 ghost use Rattle.keep_files.specs.Storing.{PutsInto};
@@ -27,7 +27,7 @@ use std::rt::HostRuntime;
 /// A database that is opened when it is first asked for: by its trees where it is exactly ours or new, or whole. A
 /// call that puts is made of the store of the same trees, or of the whole. `wait` is for how many seconds an opening
 /// waits for another that has the file open, `places` where the files lay as they were opened, and `cause` is why the
-/// last call failed that did.
+/// last call failed that did. `unfolded` is why the log was not copied behind the last put that was done by the trees.
 #[derive(Drop)]
 pub struct Database<S: Opens<P>, P: Pages + Drop> {
     pub(crate) rt: HostRuntime,
@@ -36,6 +36,7 @@ pub struct Database<S: Opens<P>, P: Pages + Drop> {
     pub(crate) places: Option<Places>,
     pub(crate) kept: Option<Kept<PageTrees<P>, ProvedKeeper<S>>>,
     pub(crate) cause: Option<Cause>,
+    pub(crate) unfolded: Option<Cause>,
 }
 
 impl<S: Opens<P>, P: Pages + Drop> Database<S, P> {
@@ -52,6 +53,7 @@ impl<S: Opens<P>, P: Pages + Drop> Database<S, P> {
             places: None,
             kept: None,
             cause: None,
+            unfolded: None,
         }
     }
 
@@ -66,6 +68,7 @@ impl<S: Opens<P>, P: Pages + Drop> Database<S, P> {
             places: _,
             kept,
             cause: _,
+            unfolded: _,
         } = self;
         match kept {
             Some(Kept::Trees(trees)) => Some(Kept::Trees(trees.give_up())),
@@ -114,6 +117,8 @@ impl<S: Opens<P>, P: Pages + Drop> Database<S, P> {
         ensures does { IsConfirmed (S.Opens.there (string_bytes self.old.path)) (S.Opens.gone (string_bytes self.old.path))
             self.old.places self.old.kept self.old.cause answer self.new.kept self.new.cause result }
         ensures said { OnOk answer (IsSaid result self.old.cause self.new.cause) }
+        ensures folded { IsTellingWhy answer self.old.kept self.old.unfolded
+            → IsTellingWhy result self.new.kept self.new.unfolded }
         ensures stays { self.new.path ≡ self.old.path }
         ensures lies { self.new.places ≡ self.old.places }
     {
@@ -182,6 +187,7 @@ impl<S: Opens<P>, P: Pages + Drop> Database<S, P> {
             (C.writes call) (C.asks call) (C.next call)
             self.old.places self.new.places
             self.old.kept (string_bytes self.old.path) self.new.kept self.new.cause result }
+        ensures folded { IsTellingWhy result self.new.kept self.new.unfolded }
         ensures tried { TriesPath S.Store S.Opens.gives S.Opens.refuses (string_bytes self.old.path) self.old.kept }
         ensures said { IsSaid result self.old.cause self.new.cause }
         ensures stays { self.new.path ≡ self.old.path }
@@ -202,6 +208,7 @@ impl<S: Opens<P>, P: Pages + Drop> Database<S, P> {
             (PutsInto S.Store (C.room call) (C.asks call) (C.next call) (C.finds call) (C.makes call))
             (C.writes call) (C.asks call) (C.next call)
             self.old.kept (string_bytes self.old.path) self.new.kept self.new.cause result }
+        ensures folded { IsTellingWhy result self.new.kept self.new.unfolded }
         ensures tried { TriesPath S.Store S.Opens.gives S.Opens.refuses (string_bytes self.old.path) self.old.kept }
         ensures said { IsSaid result self.old.cause self.new.cause }
         ensures stays { self.new.path ≡ self.old.path }
@@ -225,6 +232,7 @@ impl<S: Opens<P>, P: Pages + Drop> Database<S, P> {
         requires { C.fits call }
         ensures does { IsPutBy S.Store (C.writes call) (C.asks call) (C.next call)
             self.new.kept self.new.cause result (λ k. k ≡ kept) }
+        ensures folded { IsTellingWhy result self.new.kept self.new.unfolded }
         ensures said { IsSaid result self.old.cause self.new.cause }
         ensures stays { self.new.path ≡ self.old.path }
     {
@@ -239,6 +247,7 @@ impl<S: Opens<P>, P: Pages + Drop> Database<S, P> {
         requires none { self.old.kept ≡ None }
         ensures does { IsPutOver S.Store (C.writes call) (C.asks call) (C.next call)
             self.new.kept self.new.cause result conn }
+        ensures folded { IsTellingWhy result self.new.kept self.new.unfolded }
         ensures said { IsSaid result self.old.cause self.new.cause }
         ensures stays { self.new.path ≡ self.old.path }
     {
@@ -261,6 +270,7 @@ impl<S: Opens<P>, P: Pages + Drop> Database<S, P> {
             (PutsInto S.Store (C.room call) (C.asks call) (C.next call) (C.finds call) (C.makes call))
             (C.writes call) (C.asks call) (C.next call)
             trees (string_bytes self.old.path) self.new.kept self.new.cause result }
+        ensures folded { IsTellingWhy result self.new.kept self.new.unfolded }
         ensures said { IsSaid result self.old.cause self.new.cause }
         ensures stays { self.new.path ≡ self.old.path }
     {
@@ -275,7 +285,7 @@ impl<S: Opens<P>, P: Pages + Drop> Database<S, P> {
             Err(error) => return Err(say_of_store(&mut self.cause, error)),
         };
         if done {
-            self.kept = held_again(&rt, store);
+            self.kept = held_again(&rt, store, &mut self.unfolded);
             return Ok(());
         }
         match S::to_whole(&rt, store) {
@@ -370,8 +380,8 @@ impl<S: Opens<P>, P: Pages + Drop> Database<S, P> {
             (IsUnreadOf S.Store S.Opens.gives S.Opens.refuses (string_bytes self.now.path) None) }
     {
         match S::to_read_again(&self.rt, conn.into_store()) {
-            Some(trees) => Ok(Kept::Trees(trees)),
-            None => self.opened_anew(),
+            Ok(trees) => Ok(Kept::Trees(trees)),
+            Err(_) => self.opened_anew(),
         }
     }
 
@@ -412,16 +422,28 @@ fn lists_nothing<S: Steady>(conn: &mut Connection<S>) -> bool
     }
 }
 
-/// What is held of the file of a store that a put was made of.
+/// What is held of the file of a store that a put was made of. Where nothing is, it is said why: the put lies in the log.
 fn held_again<S: Opens<P>, P: Pages + Drop>(
     rt: &HostRuntime,
     store: S,
+    unfolded: &mut Option<Cause>,
 ) -> Option<Kept<PageTrees<P>, ProvedKeeper<S>>>
-    ensures { HoldsFound (FoundAgain P.Pages S.Opens.gives store) result }
+    ensures held { HoldsFound (FoundAgain P.Pages S.Opens.gives store) result }
+    ensures told { IsUnfolded (S.Opens.foreign (FromStore store)) (S.Opens.refuses (FromStore store)) result unfolded.new }
 {
     match S::to_read_again(rt, store) {
-        Some(trees) => Some(Kept::Trees(trees)),
-        None => None,
+        Ok(trees) => {
+            *unfolded = None;
+            Some(Kept::Trees(trees))
+        }
+        Err(None) => {
+            *unfolded = Some(Cause::Unreadable);
+            None
+        }
+        Err(Some(cause)) => {
+            *unfolded = Some(cause);
+            None
+        }
     }
 }
 

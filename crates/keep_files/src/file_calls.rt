@@ -17,6 +17,7 @@ ghost use Rattle.keep_puts.specs.Puts.{PutsDay, PutsPast, PutsTariff};
 ghost use Rattle.keep_database.specs.Shows.{ShowsDay, ShowsLast, ShowsPast, ShowsRows, ShowsSpent, ShowsTariffs};
 ghost use Rattle.keep_database.specs.Shows.{ShowsVehicleRows};
 ghost use Rattle.keep_files.specs.Asked.{AskedToRead, AskedToPut};
+ghost use Rattle.keep_files.specs.Closes.{IsTellingWhy};
 ghost use Rattle.keep_files.specs.Origins.{TriesPath};
 ghost use Rattle.keep_files.specs.Says.{Says};
 ghost use Rattle.keep_files.specs.Storing.{FindsAny, PutsInto};
@@ -181,6 +182,8 @@ impl Keeper for SqliteKeeper {
             self.old.in_file.in_file.database.places self.new.in_file.in_file.database.places
             self.old.in_file.in_file.database.kept (string_bytes self.old.in_file.in_file.database.path)
             self.new.in_file.in_file.database.kept self.new.in_file.in_file.database.cause result }
+        ensures folded { IsTellingWhy result self.new.in_file.in_file.database.kept
+            self.new.in_file.in_file.database.unfolded }
     {
         self.put(PutDay { kept, rows })
     }
@@ -202,6 +205,8 @@ impl Keeper for SqliteKeeper {
             self.old.in_file.in_file.database.places self.new.in_file.in_file.database.places
             self.old.in_file.in_file.database.kept (string_bytes self.old.in_file.in_file.database.path)
             self.new.in_file.in_file.database.kept self.new.in_file.in_file.database.cause result }
+        ensures folded { IsTellingWhy result self.new.in_file.in_file.database.kept
+            self.new.in_file.in_file.database.unfolded }
     {
         self.put(PutPast { kept, rows })
     }
@@ -222,6 +227,8 @@ impl Keeper for SqliteKeeper {
             self.old.in_file.in_file.database.places self.new.in_file.in_file.database.places
             self.old.in_file.in_file.database.kept (string_bytes self.old.in_file.in_file.database.path)
             self.new.in_file.in_file.database.kept self.new.in_file.in_file.database.cause result }
+        ensures folded { IsTellingWhy result self.new.in_file.in_file.database.kept
+            self.new.in_file.in_file.database.unfolded }
     {
         self.put(PutTariff { xway, tariff })
     }

@@ -1,8 +1,8 @@
 // A keeper in a file of some disk, whose callers see nothing of the store and of the pages behind it.
-ghost use Rattle.std.specs.Prelude.{◌≡◌, None, IfOk, IfErr, IfSome, IsSomeAnd, OnOk, option_map, string_bytes};
+ghost use Rattle.std.specs.Prelude.{◌≡◌, None, IfOk, IfErr, OnOk, option_map, string_bytes};
 ghost use Rattle.keep_office.specs.Calls.{CountsFaults};
 ghost use Rattle.keep_files.specs.Asked.{AskedToRead, AskedToPut};
-ghost use Rattle.keep_files.specs.Closes.{IsEnded, IsNotEnded, given_up};
+ghost use Rattle.keep_files.specs.Closes.{IsAllEnded, IsEnded, IsNotAllEnded, IsNotEnded, IsTellingWhy, given_up};
 ghost use Rattle.keep_files.specs.Origins.{TriesPath};
 ghost use Rattle.keep_files.specs.Says.{Says};
 ghost use Rattle.keep_files.specs.Storing.{PutsInto};
@@ -55,6 +55,7 @@ impl<D: AtPath> FileKeeper<D> {
             places: None,
             kept: None,
             cause: None,
+            unfolded: None,
         };
         let in_file = KeeperIn {
             database,
@@ -71,15 +72,21 @@ impl<D: AtPath> FileKeeper<D> {
         in_file.give_up()
     }
 
-    /// Closes the file, if it is open: what its log has is copied into it. Where that failed, it says why.
+    /// Closes the file, if it is open: what its log has is copied into it. Where that failed, or did behind the last put,
+    /// it says why.
     pub fn end(self) -> Result<(), Cause>
-        ensures ended { OnOk result (IfSome (option_map given_up self.in_file.database.kept) IsEnded) }
-        ensures failed { IfErr result (λ cause. IsSomeAnd (option_map given_up self.in_file.database.kept)
-            (λ kept. IsNotEnded kept cause)) }
+        ensures ended { OnOk result
+            (IsAllEnded IsEnded (option_map given_up self.in_file.database.kept) self.in_file.database.unfolded) }
+        ensures failed { IfErr result
+            (IsNotAllEnded IsNotEnded (option_map given_up self.in_file.database.kept) self.in_file.database.unfolded) }
     {
+        let unfolded = self.in_file.database.unfolded;
         match self.give_up() {
             Some(kept) => end(kept),
-            None => Ok(()),
+            None => match unfolded {
+                Some(cause) => Err(cause),
+                None => Ok(()),
+            },
         }
     }
 
@@ -118,6 +125,7 @@ impl<D: AtPath> FileKeeper<D> {
             self.old.in_file.database.places self.new.in_file.database.places
             self.old.in_file.database.kept (string_bytes self.old.in_file.database.path)
             self.new.in_file.database.kept self.new.in_file.database.cause result }
+        ensures folded { IsTellingWhy result self.new.in_file.database.kept self.new.in_file.database.unfolded }
         ensures tried { TriesPath ⟦<FileStore<D> as Store>⟧ ⟦<FileStore<D> as Opens<Pool<D>>>⟧.gives
             ⟦<FileStore<D> as Opens<Pool<D>>>⟧.refuses
             (string_bytes self.old.in_file.database.path) self.old.in_file.database.kept }

@@ -2,7 +2,7 @@
 ghost use Rattle.std.specs.Prelude.{◌≡◌, None, IfOk, option_map, string_bytes};
 ghost use Rattle.keep_office.specs.Calls.{CountsFaults};
 ghost use Rattle.keep_files.specs.Asked.{AskedToRead, AskedToPut};
-ghost use Rattle.keep_files.specs.Closes.{given_up};
+ghost use Rattle.keep_files.specs.Closes.{IsTellingWhy, given_up};
 ghost use Rattle.keep_files.specs.Origins.{TriesPath};
 ghost use Rattle.keep_files.specs.Says.{Says};
 ghost use Rattle.keep_files.specs.Storing.{PutsInto};
@@ -92,6 +92,7 @@ impl<S: Opens<P>, P: Pages + Drop> KeeperIn<S, P> {
             self.old.database.places self.new.database.places
             self.old.database.kept (string_bytes self.old.database.path)
             self.new.database.kept self.new.database.cause result }
+        ensures folded { IsTellingWhy result self.new.database.kept self.new.database.unfolded }
         ensures tried { TriesPath S.Store S.Opens.gives S.Opens.refuses
             (string_bytes self.old.database.path) self.old.database.kept }
         ensures cause { CountsFaults self.old.faults self.new.faults result }

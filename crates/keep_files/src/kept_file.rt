@@ -1,8 +1,9 @@
 // A keeper in a SQLite file.
-ghost use Rattle.std.specs.Prelude.{◌≡◌, None, IfOk, IfErr, IfSome, IsSomeAnd, OnOk, option_map, string_bytes};
+ghost use Rattle.std.specs.Prelude.{◌≡◌, None, IfOk, IfErr, OnOk, option_map, string_bytes};
 ghost use Rattle.keep_office.specs.Calls.{CountsFaults};
 ghost use Rattle.keep_files.specs.Asked.{AskedToRead, AskedToPut};
-ghost use Rattle.keep_files.specs.Closes.{FailsToEnd, IsEnded, IsNotEnded, given_up};
+ghost use Rattle.keep_files.specs.Closes.{FailsToEnd, IsAllEnded, IsEnded, IsNotAllEnded, IsNotEnded};
+ghost use Rattle.keep_files.specs.Closes.{IsTellingWhy, given_up};
 ghost use Rattle.keep_files.specs.Origins.{TriesPath};
 ghost use Rattle.keep_files.specs.Says.{Says};
 ghost use Rattle.keep_files.specs.Storing.{PutsInto};
@@ -67,11 +68,13 @@ impl SqliteKeeper {
     }
 
     /// Closes the file, if it is open: what its log has is copied into it. Where that is Ok, the file alone has all
-    /// that is kept, and its log has nothing.
+    /// that is kept, and its log has nothing. It fails too where the log was not copied behind the last put.
     pub fn close(self) -> Result<(), KeepFault>
-        ensures ended { OnOk result (IfSome (option_map given_up self.in_file.in_file.database.kept) IsEnded) }
-        ensures failed { IfErr result (λ fault. IsSomeAnd (option_map given_up self.in_file.in_file.database.kept)
-            (λ kept. FailsToEnd kept fault)) }
+        ensures ended { OnOk result (IsAllEnded IsEnded (option_map given_up self.in_file.in_file.database.kept)
+            self.in_file.in_file.database.unfolded) }
+        ensures failed { IfErr result (FailsToEnd
+            (IsNotAllEnded IsNotEnded (option_map given_up self.in_file.in_file.database.kept)
+            self.in_file.in_file.database.unfolded)) }
     {
         match self.end() {
             Ok(()) => Ok(()),
@@ -81,9 +84,11 @@ impl SqliteKeeper {
 
     /// The same, and says why it failed.
     pub fn end(self) -> Result<(), Cause>
-        ensures ended { OnOk result (IfSome (option_map given_up self.in_file.in_file.database.kept) IsEnded) }
-        ensures failed { IfErr result (λ cause. IsSomeAnd (option_map given_up self.in_file.in_file.database.kept)
-            (λ kept. IsNotEnded kept cause)) }
+        ensures ended { OnOk result (IsAllEnded IsEnded (option_map given_up self.in_file.in_file.database.kept)
+            self.in_file.in_file.database.unfolded) }
+        ensures failed { IfErr result
+            (IsNotAllEnded IsNotEnded (option_map given_up self.in_file.in_file.database.kept)
+            self.in_file.in_file.database.unfolded) }
     {
         let SqliteKeeper { in_file } = self;
         in_file.end()
@@ -117,6 +122,8 @@ impl SqliteKeeper {
             self.old.in_file.in_file.database.places self.new.in_file.in_file.database.places
             self.old.in_file.in_file.database.kept (string_bytes self.old.in_file.in_file.database.path)
             self.new.in_file.in_file.database.kept self.new.in_file.in_file.database.cause result }
+        ensures folded { IsTellingWhy result self.new.in_file.in_file.database.kept
+            self.new.in_file.in_file.database.unfolded }
         ensures tried { TriesPath ⟦<KeptStore as Store>⟧ ⟦<KeptStore as Opens<KeptPages>>⟧.gives
             ⟦<KeptStore as Opens<KeptPages>>⟧.refuses
             (string_bytes self.old.in_file.in_file.database.path) self.old.in_file.in_file.database.kept }

@@ -1,8 +1,9 @@
 // The ways in which the file at a path is opened.
-ghost use Rattle.std.specs.Prelude.{◌≡◌, None, IfOk, IfErr, IfSome, OnOk};
+ghost use Rattle.std.specs.Prelude.{◌≡◌, IfOk, IfErr, OnOk};
 ghost use Rattle.keep_files.specs.Looks.{AreFound, FindsTrees};
 ghost use Rattle.keep_files.specs.Openings.{FromPath, FromPages, FromStore, IfWhole};
 ghost use Rattle.keep_files.specs.Openings.{AsTrees, AsWhole, put_part, read_part};
+ghost use Rattle.keep_files.specs.Refusals.{IsLost};
 
 use crate::at_path::AtPath;
 use crate::cause::Cause;
@@ -70,23 +71,23 @@ pub trait Opens<P: Pages + Drop>: Shuts {
         ensures opened { IfOk result (λ conn. gives (FromStore store) (AsWhole conn)) }
         ensures refused { IfErr result (refuses (FromStore store)) };
 
-    /// The trees of the file of a store, if it is exactly ours. Else the file is let go.
-    fn to_read_again(rt: &HostRuntime, store: Self) -> Option<PageTrees<P>>
-        ensures found { IfSome result (AreFound P.Pages) }
-        ensures opened { IfSome result (λ trees. gives (FromStore store) (AsTrees trees)) }
-        ensures lost { result ≡ None → foreign (FromStore store) };
+    /// The trees of the file of a store, if it is exactly ours. Else the file is let go, and it is told why, none where
+    /// it is another's.
+    fn to_read_again(rt: &HostRuntime, store: Self) -> Result<PageTrees<P>, Option<Cause>>
+        ensures found { IfOk result (AreFound P.Pages) }
+        ensures opened { IfOk result (λ trees. gives (FromStore store) (AsTrees trees)) }
+        ensures lost { IfErr result (IsLost (foreign (FromStore store)) (refuses (FromStore store))) };
 }
 
-// That files are not found to be exactly ours may always be for want of memory, of which nothing is known.
 impl<D: AtPath> Opens<Pool<D>> for FileStore<D> {
-    ghost use Rattle.keep_files.specs.Refusals.{FileRefuses};
+    ghost use Rattle.keep_files.specs.Refusals.{FileIsForeign, FileRefuses};
     ghost use Rattle.keep_files.specs.Files.{FileGives};
 
     ghost gives = { FileGives D.Disk D.AtPath.reaches };
 
     ghost refuses = { FileRefuses D.Disk D.AtPath.reaches D.AtPath.refuses D.AtPath.undrawn };
 
-    ghost foreign = { λ _. Unit {0} };
+    ghost foreign = { FileIsForeign D.Disk };
 
     ghost there = { D.AtPath.there };
 
@@ -119,7 +120,10 @@ impl<D: AtPath> Opens<Pool<D>> for FileStore<D> {
         opened_whole(rt, store.close())
     }
 
-    fn to_read_again(rt: &HostRuntime, store: FileStore<D>) -> Option<PageTrees<Pool<D>>> {
+    fn to_read_again(
+        rt: &HostRuntime,
+        store: FileStore<D>,
+    ) -> Result<PageTrees<Pool<D>>, Option<Cause>> {
         listed_again(rt, store.close())
     }
 }

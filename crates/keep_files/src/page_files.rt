@@ -1,5 +1,5 @@
 // The two files of a database: by their trees where they are exactly ours, or whole.
-ghost use Rattle.std.specs.Prelude.{◌≡◌, IsTrue, IfOk, IfErr, IfSome, MatchResult};
+ghost use Rattle.std.specs.Prelude.{◌≡◌, Some, IsTrue, IfOk, IfErr, IfSome, MatchResult};
 ghost use Rattle.sqlite_wal.specs.PageSize.{bytes_of};
 ghost use Rattle.sqlite_wal.specs.Reads.{AreClean, OnlyReadsBoth};
 ghost use Rattle.sqlite_pages.specs.Calls.{Continues};
@@ -12,8 +12,9 @@ ghost use Rattle.keep_trees.specs.Pages.{our_trees};
 ghost use Rattle.keep_files.specs.Looks.{AreFound, FindsTrees};
 ghost use Rattle.keep_files.specs.Files.{AreLeft, FileGives, HaveOurForm, OfClosed, OfFiles, Shows, WereOpened};
 ghost use Rattle.keep_files.specs.Openings.{AsStore, AsTrees, AsWhole, FromPath, put_part, read_part};
-ghost use Rattle.keep_files.specs.Causes.{IsOfChecking};
-ghost use Rattle.keep_files.specs.Refusals.{AreRefused, IfFailed, IfForeign, RefusesFiles, RefusesPath};
+ghost use Rattle.keep_files.specs.Causes.{IsOfChecking, unlisted_cause, unread_cause};
+ghost use Rattle.keep_files.specs.Refusals.{AreLooked, AreRefused, IfFailed, IfForeign, IsLost, RefusesFiles};
+ghost use Rattle.keep_files.specs.Refusals.{RefusesPath};
 
 use crate::at_path::AtPath;
 use crate::cause::{Cause, cause_of, cause_of_checking};
@@ -24,7 +25,7 @@ use keep_trees::PageTrees;
 use sqlite::{Connection, FileStore, Files, Options};
 use sqlite_disk::Disk;
 use sqlite_pager::Pager;
-use sqlite_pages::Pages;
+use sqlite_pages::{Error as PageError, Pages};
 use sqlite_pool::Pool;
 use sqlite_store::{OpenError, Unopened};
 use sqlite_wal::{Error as WalError, PageSize, probe_first_page, probe_page_size};
@@ -50,8 +51,10 @@ fn our_page_size<D: Disk>(alloc: Global, files: &mut Files<D>) -> Result<PageSiz
     ensures form { IfOk result (λ _. AreClean D.Disk files.new.log files.new.db
         → HaveOurForm (image_of D.Disk files.old)) }
 {
-    let Ok(Some(size)) = probe_page_size(files) else {
-        return Err(None);
+    let size = match probe_page_size(files) {
+        Ok(Some(size)) => size,
+        Ok(None) => return Err(None),
+        Err(_) => return Err(Some(cause_of_checking(OpenError::Io, false))),
     };
     if size.bytes() != PAGE_SIZE {
         return Err(None);
@@ -68,12 +71,43 @@ fn our_page_size<D: Disk>(alloc: Global, files: &mut Files<D>) -> Result<PageSiz
 
 /// Why a first page could not be looked at, none where the log beside it is another's.
 fn why_unread(error: WalError) -> Option<Cause>
-    ensures { IfSome result IsOfChecking }
+    ensures named { result ≡ unread_cause error }
+    ensures checking { IfSome result IsOfChecking }
 {
     match error {
         WalError::OutOfMemory => Some(cause_of_checking(OpenError::OutOfMemory, false)),
         WalError::Io(_) => Some(cause_of_checking(OpenError::Io, false)),
         _ => None,
+    }
+}
+
+/// Why pages could not be read, by whether a write found no room; none where they were read and are another's, or do not
+/// hold what they should.
+fn why_unlisted(error: Option<PageError>, no_room: bool) -> Option<Cause>
+    ensures named { result ≡ unlisted_cause error no_room }
+    ensures checking { IfSome result IsOfChecking }
+{
+    match error {
+        Some(PageError::OutOfMemory) => Some(cause_of_checking(OpenError::OutOfMemory, false)),
+        Some(PageError::Io) => Some(cause_of_checking(OpenError::Io, no_room)),
+        Some(PageError::Corrupt) => None,
+        Some(PageError::Full) => None,
+        None => None,
+    }
+}
+
+/// The files of pages that are not listed as ours: they are let go where that is for a cause.
+fn missed<D: Disk + Drop>(pool: Pool<D>, why: Option<Cause>) -> Missed<Files<D>>
+    ensures foreign { IfForeign (λ left. (left.log, left.db) ≡ files_in pool) result }
+    ensures failed { IfFailed (λ cause. why ≡ Some cause) result }
+{
+    let files = pool.close();
+    match why {
+        None => Missed::Foreign(files),
+        Some(cause) => {
+            drop(files);
+            Missed::Failed(cause)
+        }
     }
 }
 
@@ -101,87 +135,110 @@ fn pool_over<D: Disk>(
     }
 }
 
-/// Pages, once what their log has was found. They are given back where that failed.
-fn recovered<D: Disk>(mut pool: Pool<D>) -> Result<Pool<D>, Pool<D>>
+/// Pages, once what their log has was found. Where that failed they are given back, with why.
+fn recovered<D: Disk>(mut pool: Pool<D>) -> Result<Pool<D>, (Option<Cause>, Pool<D>)>
     requires { AreUsable pool }
     ensures shows { IfOk result (λ found. IsTrue (state found).is_clean → Shows (image pool) found) }
     ensures ready { IfOk result (λ found. IsTrue (state found).is_clean → IsTrue (state found).is_open) }
     ensures found { IfOk result (λ found. IsTrue (state found).is_clean
         → Recovers (state pool).page_size (image pool) (state found).committed) }
-    ensures kept { MatchResult result (WereOpened pool) (WereOpened pool) }
+    ensures kept { MatchResult result (WereOpened pool) (λ back. WereOpened pool back.1) }
+    ensures failed { IfErr result (λ back. IfSome back.0 IsOfChecking) }
 {
+    let before = pool.tally().refused;
     match pool.recover(false) {
         Ok(()) => Ok(pool),
-        Err(_) => Err(pool),
+        Err(error) => {
+            let why = why_unlisted(Some(error), before < pool.tally().refused);
+            Err((why, pool))
+        }
     }
 }
 
-/// Pages, once what their log has was copied into their file, if that is asked for. They are given back where that
-/// failed.
-fn folded<D: Disk>(mut pool: Pool<D>, folds: bool) -> Result<Pool<D>, Pool<D>>
-    ensures kept { MatchResult result (Follows pool) (Follows pool) }
+/// Pages, once what their log has was copied into their file, if that is asked for. Where that failed they are given
+/// back, with why.
+fn folded<D: Disk>(mut pool: Pool<D>, folds: bool) -> Result<Pool<D>, (Option<Cause>, Pool<D>)>
+    ensures kept { MatchResult result (Follows pool) (λ back. Follows pool back.1) }
+    ensures failed { IfErr result (λ back. IfSome back.0 IsOfChecking) }
     ensures same { IfOk result (λ folded. IsTrue (state folded).is_clean → usable folded ≡ usable pool) }
     ensures empty { IfOk result (λ folded. IsTrue folds → ¬ HasSpilled pool → log_frames folded ≡ 0) }
 {
     if !folds {
         return Ok(pool);
     }
+    let before = pool.tally().refused;
     match pool.checkpoint() {
         Ok(()) => {
             if pool.is_open() {
                 return Ok(pool);
             }
-            Err(pool)
+            let why = why_unlisted(Some(PageError::Io), false);
+            Err((why, pool))
         }
-        Err(_) => Err(pool),
+        Err(error) => {
+            let why = why_unlisted(Some(error), before < pool.tally().refused);
+            Err((why, pool))
+        }
     }
 }
 
 /// The trees of files that are exactly ours, once what their log has was copied into their file, if that is asked for.
-/// Other files are given back, and what they hold is as it was.
+/// Other files are given back, and what they hold is as it was; where there was no memory for it, or the disk failed,
+/// they are let go.
 pub fn trees_of<D: Disk + Drop>(
     alloc: Global,
     mut files: Files<D>,
     seed: u64,
     folds: bool,
-) -> Result<PageTrees<Pool<D>>, Files<D>>
+) -> Result<PageTrees<Pool<D>>, Missed<Files<D>>>
     requires log { IsTrue (D.Disk.is_usable files.log) }
     requires db { IsTrue (D.Disk.is_usable files.db) }
     ensures found { IfOk result (AreFound ⟦<Pool<D> as Pages>⟧) }
     ensures opened { IfOk result (λ trees. OfFiles D.Disk files (AsTrees trees)) }
-    ensures left { IfErr result (AreLeft D.Disk files) }
+    ensures left { IfErr result (IfForeign (AreLeft D.Disk files)) }
+    ensures failed { IfErr result (IfFailed IsOfChecking) }
 {
-    let Ok(size) = our_page_size(alloc, &mut files) else {
-        return Err(files);
+    let size = match our_page_size(alloc, &mut files) {
+        Ok(size) => size,
+        Err(None) => return Err(Missed::Foreign(files)),
+        Err(Some(cause)) => {
+            drop(files);
+            return Err(Missed::Failed(cause));
+        }
     };
     let pool = match pool_over(alloc, files, size, seed) {
         Ok(pool) => pool,
-        Err(files) => return Err(files),
+        Err(files) => {
+            drop(files);
+            return Err(Missed::Failed(cause_of_checking(OpenError::OutOfMemory, false)));
+        }
     };
     let pool = match recovered(pool) {
         Ok(pool) => pool,
-        Err(pool) => return Err(pool.close()),
+        Err((why, pool)) => return Err(missed(pool, why)),
     };
     let pool = match folded(pool, folds) {
         Ok(pool) => pool,
-        Err(pool) => return Err(pool.close()),
+        Err((why, pool)) => return Err(missed(pool, why)),
     };
     match listed(alloc, pool) {
         Ok(trees) => Ok(trees),
-        Err(pool) => Err(pool.close()),
+        Err((why, pool)) => Err(missed(pool, why)),
     }
 }
 
-/// The trees of pages that list exactly ours. Other pages are given back.
-fn listed<P: Pages>(alloc: Global, pages: P) -> Result<PageTrees<P>, P>
+/// The trees of pages that list exactly ours. Other pages are given back, with why they could not be read, if they could
+/// not.
+fn listed<P: Pages>(alloc: Global, pages: P) -> Result<PageTrees<P>, (Option<Cause>, P)>
     ensures found { IfOk result (AreFound P.Pages) }
     ensures kept { IfOk result (λ trees. Continues P.Pages pages trees.pages) }
     ensures same { IfOk result (λ trees. P.Pages.pages trees.pages ≡ P.Pages.pages pages) }
-    ensures back { IfErr result (λ back. Continues P.Pages pages back) }
+    ensures back { IfErr result (λ back. Continues P.Pages pages back.1) }
+    ensures failed { IfErr result (λ back. IfSome back.0 IsOfChecking) }
 {
     match PageTrees::open(alloc, pages) {
         Ok(trees) => Ok(trees),
-        Err(pages) => Err(pages),
+        Err(pages) => Err((None, pages)),
     }
 }
 
@@ -324,20 +381,29 @@ pub fn stored<D: AtPath>(
 }
 
 /// The trees of files that a store gave back, if they are exactly ours, once what their log has was copied into their
-/// file. Else the files are let go.
-pub fn listed_again<D: AtPath>(rt: &HostRuntime, files: Files<D>) -> Option<PageTrees<Pool<D>>>
-    ensures found { IfSome result (AreFound ⟦<Pool<D> as Pages>⟧) }
-    ensures opened { IfSome result (λ trees. OfClosed D.Disk files (AsTrees trees)) }
+/// file. Else the files are let go, and it is told why, none where they are another's.
+pub fn listed_again<D: AtPath>(
+    rt: &HostRuntime,
+    files: Files<D>,
+) -> Result<PageTrees<Pool<D>>, Option<Cause>>
+    ensures found { IfOk result (AreFound ⟦<Pool<D> as Pages>⟧) }
+    ensures opened { IfOk result (λ trees. OfClosed D.Disk files (AsTrees trees)) }
+    ensures lost { IfErr result (IsLost (AreLooked D.Disk files) (RefusesFiles D.Disk D.AtPath.undrawn files)) }
 {
     if !files.may_be_used() {
-        return None;
+        return Err(Some(Cause::DiskFailed));
     }
-    let Ok(seed) = D::draw(rt) else {
-        return None;
+    let seed = match D::draw(rt) {
+        Ok(seed) => seed,
+        Err(cause) => return Err(Some(cause)),
     };
     match trees_of(rt.alloc(), files, seed, true) {
-        Ok(trees) => Some(trees),
-        Err(_) => None,
+        Ok(trees) => Ok(trees),
+        Err(Missed::Foreign(files)) => {
+            drop(files);
+            Err(None)
+        }
+        Err(Missed::Failed(cause)) => Err(Some(cause)),
     }
 }
 
@@ -363,7 +429,8 @@ pub fn open_to_read<D: AtPath>(
     };
     let files = match trees_of(rt.alloc(), files, seed, false) {
         Ok(trees) => return Ok(Kept::Trees(trees)),
-        Err(files) => files,
+        Err(Missed::Foreign(files)) => files,
+        Err(Missed::Failed(cause)) => return Err(cause),
     };
     match connected(rt, files, seed) {
         Ok(conn) => Ok(Kept::Whole(conn)),

@@ -10,6 +10,8 @@ pub mod AnyOrder
 pub mod Turns
 pub mod Listings
 pub mod Commands
+pub mod DayCommands
+pub mod ComparedDays
 pub mod Uses
 pub mod Faults
 pub mod Endings

@@ -1,19 +1,12 @@
 // The command `answers DAY`: the output of a day.
-ghost use Rattle.std.specs.Prelude.{◌≡◌, ◌≢◌, ℕ, List, [], Some, Ok, true, IsErr};
-ghost use Rattle.keep_office.specs.Office.{Office};
+ghost use Rattle.std.specs.Prelude.{◌≡◌, ◌≢◌, [], Some, Ok, true};
 ghost use Rattle.road_time.specs.Fits.{IsLimits};
-ghost use Rattle.road_time.specs.Reads.{reads};
-ghost use Rattle.day_reading.specs.Days.{most_of_day};
-ghost use Rattle.road_io.specs.Within.{ReadsWithin};
 ghost use Rattle.office_words.specs.Meaning.{IsRun};
-ghost use Rattle.day_import.specs.Faults.{FaultsBeside};
 ghost use Rattle.office_commands.specs.Commands.{answers_command};
-ghost use Rattle.office_commands.specs.Faults.{TellsNoOther};
-ghost use Rattle.office_commands.specs.Endings.{Wrote, Keeps, Did, code_of};
-ghost use Rattle.office_commands.specs.Rests.{HasReadDay};
-ghost use Rattle.office_commands.specs.Starts.{StartsDay, SaysWorked};
-ghost use Rattle.office_commands.specs.declared.closing.Closing.TheVariants.{ReadFault, KeeperFault, Words};
-ghost use Rattle.road_io.specs.Blame.{FaultsByPlan, FaultsByRoom};
+ghost use Rattle.office_commands.specs.DayCommands.{ReadsAnswered, WroteRow, KeptRow, WorkedDay};
+ghost use Rattle.office_commands.specs.Endings.{code_of};
+ghost use Rattle.office_commands.specs.Starts.{SaysWorked};
+ghost use Rattle.office_commands.specs.declared.closing.Closing.TheVariants.{Words};
 
 use crate::closing::Closing;
 use crate::outcome::ended;
@@ -40,31 +33,14 @@ pub fn answers<S: Source, O: Sink, K: Keeper, C: Crew, R: Threads>(
     requires range { IsRun run }
     requires within { IsLimits limits.now }
     requires idle { C.out crew.old ≡ [] }
-    ensures wrote { C.exact ≡ true → (bytes : List ℕ) (o : Office) → S.left source.old ≡ Some bytes
-        → K.told keeper.old ≡ Some o
-        → Wrote (answers_command limits.now run bytes o) result (O.written sink.old) (O.written sink.new) }
-    ensures keeps { C.exact ≡ true → (bytes : List ℕ) (o : Office) → S.left source.old ≡ Some bytes
-        → K.told keeper.old ≡ Some o
-        → Keeps K.refuses (answers_command limits.now run bytes o) o (K.told keeper.new) result }
-    ensures does { C.exact ≡ true → (bytes : List ℕ) (o : Office) → S.left source.old ≡ Some bytes
-        → K.told keeper.old ≡ Some o
-        → Did K.refuses (answers_command limits.now run bytes o) o (O.written sink.old) (O.written sink.new)
-        (K.told keeper.new) result }
-    ensures reads { HasReadDay limits.now run.late (code_of result) (S.left source.old) (S.left source.new) }
-    ensures kept { K.told keeper.new ≡ K.told keeper.old }
-    ensures jobs { (bytes : List ℕ) → S.left source.old ≡ Some bytes
-        → StartsDay run limits.now.backlog (reads bytes limits.now run.late).tuples
-        (SaysWorked (code_of result)) (C.jobs crew.old) (C.jobs crew.new) }
-    ensures idle { C.out crew.new ≡ [] }
-    ensures crew { C.which crew.new ≡ C.which crew.old }
     ensures said { result ≢ Ok (Some Words) }
-    ensures bounded { ReadsWithin (most_of_day limits.now) (S.left source.old) (S.left source.new) }
-    ensures source { FaultsBeside (S.faults source.old) (S.faults source.new) (S.plan source.old)
-        (result ≡ Ok (Some ReadFault)) (TellsNoOther result) }
-    ensures sink { FaultsByRoom (O.faults sink.old) (O.faults sink.new) (O.room sink.old) (O.room sink.new)
-        (IsErr result) }
-    ensures keeper { FaultsByPlan (K.faults keeper.old) (K.faults keeper.new) (K.plan keeper.old)
-        (result ≡ Ok (Some KeeperFault)) }
+    ensures kept { K.told keeper.new ≡ K.told keeper.old }
+    ensures source { ReadsAnswered S.Source run limits.now result source.old source.new }
+    ensures sink { WroteRow S.Source O.Sink K.Keeper (C.exact ≡ true) (answers_command limits.now run) result source.old
+        keeper.old keeper.new sink.old sink.new }
+    ensures keeper { KeptRow S.Source K.Keeper (C.exact ≡ true) (answers_command limits.now run) result source.old
+        keeper.old keeper.new }
+    ensures crew { WorkedDay S.Source C.Crew run limits.now (SaysWorked (code_of result)) source.old crew.old crew.new }
 {
     let terms = DayTerms {
         day: run.day,

@@ -1,5 +1,5 @@
 // The commands `validate DAY` and `audit DAY`: notices compared with those of the rules.
-ghost use Rattle.std.specs.Prelude.{◌≡◌, ◌≢◌, ◌≤◌, [], ℕ, List, Some, None, Err, IfOk, IsOk, false, length};
+ghost use Rattle.std.specs.Prelude.{◌≡◌, ◌≢◌, ◌≤◌, [], ℕ, List, Some, Err, IfOk, IsOk, false, length};
 ghost use Rattle.road_time.specs.Day.{notices};
 ghost use Rattle.road_time.specs.Fits.{IsDay, IsLimits};
 ghost use Rattle.road_time.specs.Lines.{lines_of};
@@ -7,7 +7,6 @@ ghost use Rattle.road_io.specs.Plans.{NeverFails};
 ghost use Rattle.keep_office.specs.Office.{Office};
 ghost use Rattle.keep_office.specs.declared.kept.KeepFault.TheVariants.{Failed};
 ghost use Rattle.road_time.specs.History.{paid, KeysDiffer};
-ghost use Rattle.day_reading.specs.Days.{most_of_day};
 ghost use Rattle.road_io.specs.Within.{ReadsWithin};
 ghost use Rattle.office_words.specs.Meaning.{IsComparing};
 ghost use Rattle.office_commands.specs.Commands.{compare_command, comparison_by, comparison_of, compared_tuples};
@@ -19,7 +18,7 @@ ghost use Rattle.office_commands.specs.Closings.{status_of};
 ghost use Rattle.office_commands.specs.Endings.{StandsBefore};
 ghost use Rattle.office_commands.specs.Rests.{HasReadDay, SaysBy};
 ghost use Rattle.office_commands.specs.declared.closing.Closing.TheVariants.{ReadFault, KeeperFault, Words};
-ghost use Rattle.office_commands.specs.Uses.{most_noticed};
+ghost use Rattle.office_commands.specs.ComparedDays.{ListsWhatDiffers, ReadsBehind, ReadsCompared, KeepsCompared, WorksCompared};
 ghost use Rattle.office_commands.specs.Starts.{shards_of, StartsBulk, SaysCompared};
 ghost use Rattle.office_commands.specs.Faults.{ReadFaults};
 ghost use Rattle.road_io.specs.Blame.{FaultsByPlan};
@@ -132,8 +131,14 @@ fn compare_notices<A: Source>(
     }
 }
 
-/// Compares the notices of a day that was read with the lines of an aside, and gives the first differences. By how many
-/// shards its vehicles were seen stands in `shards_seen` where notices were compared.
+/// How a comparison closes, and by how many shards the vehicles were seen, where notices were compared.
+#[derive(Clone, Copy)]
+pub(crate) struct Compared {
+    pub closing: Closing,
+    pub shards: usize,
+}
+
+/// Compares the notices of a day that was read with the lines of an aside, and gives the first differences.
 fn compare_day<A: Source, K: Keeper, C: Crew, R: Threads + Sync>(
     rt: &R,
     alloc: Global,
@@ -143,9 +148,8 @@ fn compare_day<A: Source, K: Keeper, C: Crew, R: Threads + Sync>(
     aside: &mut A,
     keeper: &mut K,
     crew: &mut C,
-    shards_seen: &mut usize,
     shown: &mut Vec<Difference>,
-) -> Closing
+) -> Compared
     requires fit { IsDay day.now.tuples.items }
     requires range { IsComparing asked }
     requires idle { C.out crew.old ≡ [] }
@@ -153,29 +157,25 @@ fn compare_day<A: Source, K: Keeper, C: Crew, R: Threads + Sync>(
     ensures exact { IsRightFor asked.how C.exact → (lines : List ℕ) (o : Office) → A.left aside.old ≡ Some lines
         → K.told keeper.old ≡ Some o → tariffs.now ≡ o.tariffs
         → StandsBefore (unless_refused day.now.refused
-        (comparison_of asked day.now.tuples.items (lines_of lines) o)) result
+        (comparison_of asked day.now.tuples.items (lines_of lines) o)) result.closing
         (differences_text shown.new.items) }
     ensures kept { K.told keeper.new ≡ K.told keeper.old }
-    ensures said { result ≢ Words }
-    ensures says { SaysBy day.now.refused (status_of result) }
-    ensures none { status_of result ≢ 7 → shown.new.items ≡ [] }
-    ensures source_first { day.now.refused ≢ None → aside.new ≡ aside.old }
-    ensures bounded { IsRightFor asked.how C.exact → (o : Office) → K.told keeper.old ≡ Some o
-        → tariffs.now ≡ o.tariffs
-        → ReadsWithin (most_noticed asked day.now.tuples.items o) (A.left aside.old)
-        (A.left aside.new) }
-    ensures unused { in_bulk asked.how ≡ false → crew.new ≡ crew.old }
-    ensures jobs { StartsBulk asked.how day.now.tuples.items (SaysCompared (status_of result)) (C.jobs crew.old)
-        (C.jobs crew.new) }
-    ensures by { SaysCompared (status_of result) → shards_seen.new ≡ shards_of asked.how }
-    ensures idle { C.out crew.new ≡ [] }
-    ensures crew { C.which crew.new ≡ C.which crew.old }
-    ensures aside { FaultsByPlan (A.faults aside.old) (A.faults aside.new) (A.plan aside.old) (result ≡ ReadFault) }
+    ensures says { SaysBy day.now.refused (status_of result.closing) }
+    ensures lists { ListsWhatDiffers result.closing shown.new.items }
+    ensures aside { ReadsBehind A.Source asked day.now.tuples.items day.now.refused (IsRightFor asked.how C.exact)
+        (K.told keeper.old) tariffs.now result.closing aside.old aside.new }
+    ensures crew { WorksCompared C.Crew asked.how
+        (λ told now. StartsBulk asked.how day.now.tuples.items (SaysCompared (status_of result.closing)) told now)
+        crew.old crew.new }
+    ensures by { SaysCompared (status_of result.closing) → result.shards ≡ shards_of asked.how }
     ensures keeper { FaultsByPlan (K.faults keeper.old) (K.faults keeper.new) (K.plan keeper.old)
-        (result ≡ KeeperFault) }
+        (result.closing ≡ KeeperFault) }
 {
     if let Some((line, cause)) = day.refused {
-        return Closing::Refused { line, cause };
+        return Compared {
+            closing: Closing::Refused { line, cause },
+            shards: 0,
+        };
     }
     match wanted_notices(
         rt,
@@ -186,25 +186,27 @@ fn compare_day<A: Source, K: Keeper, C: Crew, R: Threads + Sync>(
         keeper,
         crew,
     ) {
-        Ok(wanted) => {
-            *shards_seen = wanted.shards();
-            compare_notices(
+        Ok(wanted) => Compared {
+            shards: wanted.shards(),
+            closing: compare_notices(
                 alloc,
                 asked.any_order,
                 asked.show,
                 wanted.items(),
                 aside,
                 shown,
-            )
-        }
-        Err(fault) => refused(fault),
+            ),
+        },
+        Err(fault) => Compared {
+            closing: refused(fault),
+            shards: 0,
+        },
     }
 }
 
 /// Compares the notices of what the source has, after what the keeper keeps, with the lines of an aside, unless a
-/// line is refused. Gives the first differences, where more than one is asked for. By how many shards the vehicles were
-/// seen stands in `shards_seen` where notices were compared.
-pub fn compare_source<S: Source, A: Source, K: Keeper, C: Crew, R: Threads + Sync>(
+/// line is refused. Gives the first differences, where more than one is asked for.
+pub(crate) fn compare_source<S: Source, A: Source, K: Keeper, C: Crew, R: Threads + Sync>(
     rt: &R,
     alloc: Global,
     asked: Comparison,
@@ -213,59 +215,46 @@ pub fn compare_source<S: Source, A: Source, K: Keeper, C: Crew, R: Threads + Syn
     aside: &mut A,
     keeper: &mut K,
     crew: &mut C,
-    shards_seen: &mut usize,
     shown: &mut Vec<Difference>,
-) -> Closing
+) -> Compared
     requires range { IsComparing asked }
     requires within { IsLimits limits.now }
     requires idle { C.out crew.old ≡ [] }
     requires empty { shown.old.items ≡ [] }
     ensures exact { IsRightFor asked.how C.exact → (bytes lines : List ℕ) (o : Office) → S.left source.old ≡ Some bytes
         → A.left aside.old ≡ Some lines → K.told keeper.old ≡ Some o
-        → StandsBefore (compare_command limits.now asked bytes lines o) result (differences_text shown.new.items) }
-    ensures kept { (o : Office) → K.told keeper.old ≡ Some o → K.told keeper.new ≡ Some o }
-    ensures said { result ≢ Words }
-    ensures none { status_of result ≢ 7 → shown.new.items ≡ [] }
-    ensures reads { HasReadDay (recomputed asked.how limits.now) asked.late (status_of result)
+        → StandsBefore (compare_command limits.now asked bytes lines o) result.closing
+        (differences_text shown.new.items) }
+    ensures lists { ListsWhatDiffers result.closing shown.new.items }
+    ensures reads { HasReadDay (recomputed asked.how limits.now) asked.late (status_of result.closing)
         (S.left source.old) (S.left source.new) }
-    ensures refused_first { status_of result ≡ 2 → aside.new ≡ aside.old }
-    ensures source_first { (bytes : List ℕ) → S.left source.old ≡ Some bytes → S.left source.new ≢ Some []
-        → aside.new ≡ aside.old }
-    ensures bounded { ReadsWithin (most_of_day (recomputed asked.how limits.now)) (S.left source.old)
-        (S.left source.new) }
-    ensures aside_bounded { IsRightFor asked.how C.exact → (bytes : List ℕ) (o : Office)
-        → S.left source.old ≡ Some bytes → K.told keeper.old ≡ Some o
-        → ReadsWithin (most_noticed asked (compared_tuples limits.now asked bytes) o)
-        (A.left aside.old) (A.left aside.new) }
-    ensures unused { in_bulk asked.how ≡ false → crew.new ≡ crew.old }
-    ensures jobs { (bytes : List ℕ) → S.left source.old ≡ Some bytes
-        → StartsBulk asked.how (compared_tuples limits.now asked bytes) (SaysCompared (status_of result))
-        (C.jobs crew.old) (C.jobs crew.new) }
-    ensures by { SaysCompared (status_of result) → shards_seen.new ≡ shards_of asked.how }
-    ensures idle { C.out crew.new ≡ [] }
-    ensures crew { C.which crew.new ≡ C.which crew.old }
+    ensures aside { ReadsCompared S.Source A.Source limits.now asked (IsRightFor asked.how C.exact) (K.told keeper.old)
+        (status_of result.closing) source.old source.new aside.old aside.new }
+    ensures crew { WorksCompared C.Crew asked.how
+        (λ told now. (bytes : List ℕ) → S.left source.old ≡ Some bytes
+        → StartsBulk asked.how (compared_tuples limits.now asked bytes) (SaysCompared (status_of result.closing))
+        told now) crew.old crew.new }
+    ensures by { SaysCompared (status_of result.closing) → result.shards ≡ shards_of asked.how }
     ensures read { ReadFaults (S.faults source.old) (S.faults source.new) (A.faults aside.old) (A.faults aside.new)
-        (NeverFails (S.plan source.old)) (NeverFails (A.plan aside.old)) (result ≡ ReadFault) (Unit {0}) }
-    ensures keeper { FaultsByPlan (K.faults keeper.old) (K.faults keeper.new) (K.plan keeper.old)
-        (result ≡ KeeperFault) }
+        (NeverFails (S.plan source.old)) (NeverFails (A.plan aside.old)) (result.closing ≡ ReadFault) (Unit {0}) }
+    ensures keeper { KeepsCompared K.Keeper (result.closing ≡ KeeperFault) keeper.old keeper.new }
 {
     let tariffs = match keeper.tariffs() {
         Ok(tariffs) => tariffs,
-        Err(fault) => return refused(fault),
+        Err(fault) => {
+            return Compared {
+                closing: refused(fault),
+                shards: 0,
+            };
+        }
     };
     match read_day(rt, alloc, limits, asked.how, asked.late, source) {
         Ok(read) => compare_day(
-            rt,
-            alloc,
-            asked,
-            &read,
-            &tariffs,
-            aside,
-            keeper,
-            crew,
-            shards_seen,
-            shown,
+            rt, alloc, asked, &read, &tariffs, aside, keeper, crew, shown,
         ),
-        Err(stop) => stopped(stop),
+        Err(stop) => Compared {
+            closing: stopped(stop),
+            shards: 0,
+        },
     }
 }

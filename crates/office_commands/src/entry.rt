@@ -11,6 +11,7 @@ ghost use Rattle.office_commands.specs.Uses.{asked, uses_source, uses_aside};
 
 use crate::closing::Closing;
 use crate::performing::perform;
+use crate::terms::CommandTerms;
 use keep_office::Keeper;
 use office_words::{WordFault, read_words};
 use road_io::{Sink, Source, put_all};
@@ -87,8 +88,10 @@ pub fn office<S: Source, A: Source, O: Sink, K: Keeper, C: Crew, R: Threads + Sy
         Ok(command) => match perform(
             rt,
             alloc,
-            command,
-            limits,
+            CommandTerms {
+                command,
+                limits: *limits,
+            },
             source,
             aside,
             sink,

@@ -32,6 +32,7 @@ mod second;
 mod statements;
 mod tariffs;
 mod telling;
+mod terms;
 mod traffic;
 mod turns;
 

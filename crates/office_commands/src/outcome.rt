@@ -3,7 +3,7 @@ ghost use Rattle.std.specs.Prelude.{◌≡◌, ◌≢◌, Some, Ok, OnErr, IsErr
 ghost use Rattle.day_import.specs.declared.outcomes.Outcome.TheVariants as outcome;
 ghost use Rattle.office_commands.specs.Commands.{closing_by};
 ghost use Rattle.office_commands.specs.Endings.{EndsCommand};
-ghost use Rattle.office_commands.specs.declared.closing.Closing.TheVariants.{ReadFault, KeeperFault, NoMemory, Words};
+ghost use Rattle.office_commands.specs.declared.closing.Closing.TheVariants.{ReadFault, KeeperFault, Words};
 
 use crate::closing::Closing;
 use day_import::Outcome;
@@ -18,7 +18,6 @@ pub fn ended(day: u32, done: Outcome) -> Result<Option<Closing>, Failed>
     ensures failed { OnErr result (done ≡ outcome.WriteFault) }
     ensures read_told { done ≡ outcome.ReadFault → result ≡ Ok (Some ReadFault) }
     ensures keeper_told { done ≡ outcome.KeeperFault → result ≡ Ok (Some KeeperFault) }
-    ensures memory_told { done ≡ outcome.NoMemory → result ≡ Ok (Some NoMemory) }
     ensures write_told { done ≡ outcome.WriteFault → IsErr result }
 {
     let closing = match done {

@@ -21,11 +21,11 @@ use crate::run_limits::run_limits;
 use crate::statements::{charges, day, export, vehicle};
 use crate::tariffs::{tariff, tariffs};
 use crate::telling::compare_and_tell;
+use crate::terms::{CommandTerms, ComparisonTerms};
 use crate::traffic::{generate, rehearse};
 use keep_office::Keeper;
 use office_words::Command;
 use road_io::{Failed, Sink, Source};
-use road_time::Limits;
 use std::alloc::Global;
 use std::thread::Threads;
 use ways_crews::Crew;
@@ -36,8 +36,7 @@ use ways_crews::Crew;
 pub(crate) fn perform<S: Source, A: Source, O: Sink, K: Keeper, C: Crew, R: Threads + Sync>(
     rt: &R,
     alloc: Global,
-    command: Command,
-    limits: &Limits,
+    terms: CommandTerms,
     source: &mut S,
     aside: &mut A,
     sink: &mut O,
@@ -45,40 +44,42 @@ pub(crate) fn perform<S: Source, A: Source, O: Sink, K: Keeper, C: Crew, R: Thre
     crew: &mut C,
     shards_seen: &mut usize,
 ) -> Result<Option<Closing>, Failed>
-    requires limits { IsLimits limits.now }
-    requires range { IsInRange command }
+    requires limits { IsLimits terms.limits }
+    requires range { IsInRange terms.command }
     requires idle { C.out crew.old ≡ [] }
     ensures said { result ≢ Ok (Some Words) }
-    ensures source { ReadsSource S.Source limits.now (Some command) (K.told keeper.old) (code_of result) source.old
+    ensures source { ReadsSource S.Source terms.limits (Some terms.command) (K.told keeper.old) (code_of result) source.old
         source.new }
-    ensures aside { ReadsAside S.Source A.Source limits.now (Some command) C.exact (K.told keeper.old)
+    ensures aside { ReadsAside S.Source A.Source terms.limits (Some terms.command) C.exact (K.told keeper.old)
         (code_of result) source.old source.new aside.old aside.new }
     ensures read { ReadFaults (S.faults source.old) (S.faults source.new) (A.faults aside.old) (A.faults aside.new)
-        (uses_source (Some command) ≡ true → NeverFails (S.plan source.old))
-        (uses_aside (Some command) ≡ true → NeverFails (A.plan aside.old)) (result ≡ Ok (Some ReadFault))
+        (uses_source (Some terms.command) ≡ true → NeverFails (S.plan source.old))
+        (uses_aside (Some terms.command) ≡ true → NeverFails (A.plan aside.old)) (result ≡ Ok (Some ReadFault))
         (TellsNoOther result) }
-    ensures sink { WroteAsked S.Source A.Source O.Sink K.Keeper limits.now (Some command) C.exact result source.old
+    ensures sink { WroteAsked S.Source A.Source O.Sink K.Keeper terms.limits (Some terms.command) C.exact result source.old
         aside.old keeper.old keeper.new sink.old sink.new }
-    ensures keeper { KeptAsked S.Source K.Keeper limits.now (Some command) C.exact result source.old keeper.old
+    ensures keeper { KeptAsked S.Source K.Keeper terms.limits (Some terms.command) C.exact result source.old keeper.old
         keeper.new }
-    ensures crew { WorksAsked S.Source C.Crew limits.now (Some command) (K.told keeper.old) (code_of result) source.old
+    ensures crew { WorksAsked S.Source C.Crew terms.limits (Some terms.command) (K.told keeper.old) (code_of result) source.old
         crew.old crew.new }
-    ensures by { SeesAsked (Some command) (code_of result) shards_seen.new }
+    ensures by { SeesAsked (Some terms.command) (code_of result) shards_seen.new }
 {
-    match command {
+    match terms.command {
         Command::Answers(run) => {
-            let own = run_limits(&run, limits);
+            let own = run_limits(&run, &terms.limits);
             answers(rt, alloc, run, &own, source, sink, keeper, crew)
         }
         Command::Import(run) => {
-            let own = run_limits(&run, limits);
+            let own = run_limits(&run, &terms.limits);
             import(rt, alloc, run, &own, source, sink, keeper, crew)
         }
         Command::Compare(asked) => compare_and_tell(
             rt,
             alloc,
-            asked,
-            limits,
+            ComparisonTerms {
+                asked,
+                limits: terms.limits,
+            },
             source,
             aside,
             sink,
@@ -86,10 +87,10 @@ pub(crate) fn perform<S: Source, A: Source, O: Sink, K: Keeper, C: Crew, R: Thre
             crew,
             shards_seen,
         ),
-        Command::Past { base } => Ok(Some(past(rt, alloc, base, limits, source, keeper))),
+        Command::Past { base } => Ok(Some(past(rt, alloc, base, &terms.limits, source, keeper))),
         Command::Day { day: number } => day(alloc, number, sink, keeper),
         Command::Vehicle { vid, from, to } => vehicle(alloc, vid, from, to, sink, keeper),
-        Command::Accidents { late } => accidents(rt, alloc, late, limits, source, sink),
+        Command::Accidents { late } => accidents(rt, alloc, late, &terms.limits, source, sink),
         Command::Export { day } => export(alloc, day, sink, keeper),
         Command::Tariff {
             xway,
@@ -104,6 +105,13 @@ pub(crate) fn perform<S: Source, A: Source, O: Sink, K: Keeper, C: Crew, R: Thre
         ))),
         Command::Days => days(alloc, sink, keeper),
         Command::Charges { from, to } => charges(alloc, from, to, sink, keeper),
-        Command::Check { day: number, late } => check(alloc, number, late, limits, source, sink),
+        Command::Check { day: number, late } => check(
+            alloc,
+            number,
+            late,
+            &terms.limits,
+            source,
+            sink,
+        ),
     }
 }

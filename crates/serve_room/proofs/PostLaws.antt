@@ -1,6 +1,6 @@
 -- Laws of who leaves the room first.
 use Rattle.std.proofs.Common.{◌≡◌, ◌≢◌, slice_set, ◌⊎◌, inl, inr, ⊎_elim, ℕ, zero, suc, ◌<◌, ◌+◌, Bool, true, false, List, [], ◌∷◌}
-use Rattle.std.proofs.Common.{length, drop, slice_get, Option, Some, None, refl, sym, ap, subst, ◌∙◌, arith}
+use Rattle.std.proofs.Common.{length, drop, slice_get, Option, Some, None, IfSome, refl, sym, ap, subst, ◌∙◌, arith}
 use Rattle.std.proofs.lemmas.Bool.{cond-true, cond-false, false≢true}
 use Rattle.std.specs.declared.time.Instant.{Instant}
 use Rattle.road_time.proofs.EachLaws.{some_is, no_some}
@@ -8,7 +8,8 @@ use Rattle.serve_room.specs.declared.seat.Seat.{Seat}
 use Rattle.serve_room.specs.declared.posts.Who.{Who}
 use Rattle.serve_room.specs.declared.posts.Kind.TheVariants.{Post, Read}
 use Rattle.serve_room.specs.Posts.{ends_line, line_of, kind_of, of_kind, is_meant, HasNone, OnlyOthersWait, NoneBefore, NoneBelow, Leaves, IsFirstBelow, IsFirst}
-use Rattle.serve_room.specs.Posts.{Precedes, one_of, meant_in}
+use Rattle.std.proofs.lemmas.Option.{slice_get_within}
+use Rattle.serve_room.specs.Posts.{Precedes, one_of, meant_in, GivesSeat}
 
 -- below the next number is a number or below it
 below_or_at : (k at : ℕ) → k < suc at → (k < at) ⊎ (k ≡ at)
@@ -178,6 +179,30 @@ set_there (s ∷ seats) zero zero new other = absurd (other refl)
 set_there (s ∷ seats) zero (suc k) new other = refl
 set_there (s ∷ seats) (suc at) zero new other = refl
 set_there (s ∷ seats) (suc at) (suc k) new other = set_there seats at k new (λ e. other (ap suc e))
+
+-- whoever goes first sits in its place
+pub sits_here : (who : Who) (seats : List (Option Seat)) (at : ℕ) (seat : Seat) → IsFirst who seats at seat →
+    (place : Option Seat) → slice_get seats at ≡ Some place → Some seat ≡ place
+sits_here who seats at seat first place here = some_is (Some seat) place (sym first.sits ∙ here)
+
+-- so it gives its seat, where that place is emptied
+pub gives_here : (who : Who) (seats : List (Option Seat)) (at : ℕ) (seat : Seat) → IsFirst who seats at seat →
+    (place : Option Seat) → slice_get seats at ≡ Some place →
+    IfSome place (λ s. GivesSeat who seats (slice_set seats at None) s)
+gives_here who seats at seat first place here =
+    subst (λ p. IfSome p (λ s. GivesSeat who seats (slice_set seats at None) s))
+    (sits_here who seats at seat first place here) (
+      at,
+      first,
+      set_here seats at None (slice_get_within seats at _ first.sits),
+      λ k other. set_there seats at k None other,
+    )
+
+-- and that place was none of nobody
+pub not_nobody : (who : Who) (seats : List (Option Seat)) (at : ℕ) (seat : Seat) → IsFirst who seats at seat →
+    (place : Option Seat) → slice_get seats at ≡ Some place → place ≡ None → ⊥
+not_nobody who seats at seat first place here none =
+    no_some seat (sym (sits_here who seats at seat first place here ∙ none))
 
 -- who sits in a place counts among those from it on
 pub counted_on : (who : Who) (seats : List (Option Seat)) (at : ℕ) (place : Option Seat) →

@@ -1,5 +1,5 @@
--- Who gives a seat where all are taken.
-use Rattle.std.specs.Prelude.{ℕ, true, false, nat_le, List, Option, if◌then◌else◌}
+-- Who gives a seat where all are taken, and what it is answered.
+use Rattle.std.specs.Prelude.{ℕ, true, false, nat_le, List, ◌++◌, codes, Option, if◌then◌else◌}
 use Rattle.serve_room.specs.Posts.{meant_in}
 use Rattle.serve_room.specs.declared.posts.Who.{Who}
 use Rattle.serve_room.specs.declared.seat.Seat.{Seat}
@@ -26,3 +26,9 @@ abbrev pub who_gives : List (Option Seat) → Who
 who_gives seats =
     if nat_le third (meant_in posting seats) then posting
     else (if nat_le third (meant_in reading seats) then reading else waiting)
+
+-- what is answered to whoever gives its seat: status 503, and that it may come again after 10 seconds
+abbrev pub full_line : List ℕ
+full_line =
+    codes "HTTP/1.1 503 Service Unavailable\r\nContent-Length: 16\r\nContent-Type: application/json\r\n"
+    ++ codes "Connection: close\r\nRetry-After: 10\r\n\r\n{\"error\":\"line\"}"

@@ -119,10 +119,10 @@ meant_in who (place ∷ seats) = one_of who place + meant_in who seats
 abbrev pub HasNone : Who → List (Option Seat) → Type 0
 HasNone who seats = NoneBelow who seats (length seats)
 
--- of those that are meant the first has given its seat, and nobody else
-abbrev pub GivesSeat : Who → List (Option Seat) → List (Option Seat) → Type 0
-GivesSeat who old new =
-    (at : ℕ) × (seat : Seat) × IsFirst who old at seat × (slice_get new at ≡ Some None)
+-- of those that are meant this one, the first, has given its seat, and nobody else
+abbrev pub GivesSeat : Who → List (Option Seat) → List (Option Seat) → Seat → Type 0
+GivesSeat who old new seat =
+    (at : ℕ) × IsFirst who old at seat × (slice_get new at ≡ Some None)
     × ((k : ℕ) → k ≢ at → slice_get new k ≡ slice_get old k)
 
 -- of those that are to wait no more, only who posts a day or asks for what is kept still sits

@@ -19,6 +19,14 @@ drain_time = 2 * 10 ^ 9
 abbrev pub portion : ℕ
 portion = 65536
 
+-- what a whole connection is waited for before its last portion begins: 25 hours
+abbrev pub whole_time : ℕ
+whole_time = 90000 * 10 ^ 9
+
 -- what is left for the portion that comes
 abbrev pub left_of : Patience → ℕ
 left_of p = portion_time - as_nanos p.waited
+
+-- what is left for the whole connection before its last portion begins
+abbrev pub whole_left_of : Patience → ℕ
+whole_left_of p = whole_time - as_nanos p.in_all

@@ -2,8 +2,8 @@
 //!
 //! A `WaitingRoom` listens on a port of this machine. It has 720 seats, and a connection sits in one from its accept until
 //! its head is whole, or can become none. One that ends before, fails, or has sent no head within ten seconds leaves its
-//! seat unanswered; where all seats are taken, so does the first that was accepted of those that wait for their head, or, where those that
-//! wait for others have a third of the seats, the last of these.
+//! seat unanswered; where all seats are taken, so does the first that was accepted of those that wait for their head, or,
+//! where those that wait for others have a third of the seats, the last of these, which is told so.
 //! `next` waits for all of them at once, and hands on the first that is to wait no more: a `RoomLink`, which gives what the
 //! connection sent in the room before what it sends later.
 //! There is one pass for connections that post a day: the next one waits in its seat until that before it gave the pass

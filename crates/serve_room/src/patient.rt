@@ -1,8 +1,8 @@
 // A stream that is read with patience.
-ghost use Rattle.std.specs.Prelude.{◌≡◌, true, false, None, IsErr, IsSome};
+ghost use Rattle.std.specs.Prelude.{◌≡◌, true, false, None, IsErr, IsOk, IsSome};
 ghost use Rattle.std.specs.Io.{ReadsAtMost, WritesAtMost};
 ghost use Rattle.std.specs.Io.KnownBytes.{ReadConsumes};
-ghost use Rattle.serve_room.specs.Times.{left_of};
+ghost use Rattle.serve_room.specs.Times.{left_of, whole_left_of};
 
 use crate::patience::Patience;
 use crate::turns::{OwnTurn, is_over};
@@ -23,7 +23,8 @@ impl Timed for TcpStream {
     }
 }
 
-/// A stream whose reads wait for it 30 seconds for each 64 KiB, and 30 seconds in all once its turn is over.
+/// A stream whose reads wait for it 30 seconds for each 64 KiB, and 30 seconds in all once its turn is over, or once they
+/// waited 25 hours.
 #[derive(Drop)]
 pub struct Patient<S> {
     rt: HostRuntime,
@@ -71,6 +72,13 @@ fn time_left(patience: &mut Patience, over: bool) -> Option<Duration>
     Some(patience.left())
 }
 
+/// Whether what is left of a stream has its last portion: its turn is over, or it was waited for as long as may be.
+fn has_last(turn: &Option<OwnTurn>, patience: &Patience) -> bool
+    ensures { whole_left_of patience.now ≡ 0 → result ≡ true }
+{
+    patience.is_spent() || is_over(turn)
+}
+
 /// Reads once, where a stream may still be waited for.
 fn read_patiently<S: Read + Timed>(
     rt: &HostRuntime,
@@ -82,6 +90,7 @@ fn read_patiently<S: Read + Timed>(
     ensures bound { ReadsAtMost result buf.new }
     ensures bytes { ReadConsumes (S.remaining stream.old) (S.remaining stream.new) result buf.new }
     ensures over { left_of patience.old ≡ 0 → IsErr result }
+    ensures last { over ≡ true → IsOk result → patience.new.last ≡ true }
 {
     let Some(left) = time_left(patience, over) else {
         return Err(io::Error::from(ErrorKind::TimedOut));
@@ -108,14 +117,10 @@ impl<S: Read + Timed> Read for Patient<S> {
         ensures bound { ReadsAtMost result buf.new }
         ensures bytes { ReadConsumes (S.remaining self.old.stream) (S.remaining self.new.stream) result buf.new }
         ensures over { left_of self.old.patience ≡ 0 → IsErr result }
+        ensures last { whole_left_of self.old.patience ≡ 0 → IsOk result → self.new.patience.last ≡ true }
     {
-        read_patiently(
-            &self.rt,
-            &mut self.stream,
-            &mut self.patience,
-            is_over(&self.turn),
-            buf,
-        )
+        let last = has_last(&self.turn, &self.patience);
+        read_patiently(&self.rt, &mut self.stream, &mut self.patience, last, buf)
     }
 }
 

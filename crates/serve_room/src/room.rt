@@ -16,7 +16,7 @@ use crate::outside::Outside;
 use crate::posts::{first_of, kind_of};
 use crate::room_link::{RoomLink, link_to};
 use crate::seat::Seat;
-use crate::seating::{Gate, drain, fill, give_seat};
+use crate::seating::{Gate, drain, fill, give_seat, turned_away};
 use crate::threshold::Threshold;
 use crate::turns::Pass;
 use mio::net::TcpListener;
@@ -105,14 +105,6 @@ fn patience(seats: &[Option<Seat>], drains: &[Option<Drain>], gate: Gate) -> Opt
         return None;
     }
     Some(Duration::from_millis(TICK))
-}
-
-/// Where all seats are taken, has one be given up for who comes next.
-fn given_way(seats: &mut [Option<Seat>], gate: Gate) -> Gate {
-    if gate == Gate::Full && give_seat(seats) {
-        return Gate::Given;
-    }
-    gate
 }
 
 /// Takes the connection out of a seat, if one sits there.
@@ -253,6 +245,25 @@ impl WaitingRoom {
         Some(let_out(self.rt, self.poll.registry(), seat, &mut self.outside))
     }
 
+    /// Where all seats are taken, has one be given up for who comes next. Whoever waited for others there is told so.
+    fn give_way(&mut self, gate: Gate, now: Instant) -> Gate {
+        if gate != Gate::Full {
+            return gate;
+        }
+        let Some(seat) = give_seat(self.seats.as_mut_slice()) else {
+            return gate;
+        };
+        if let Some(stream) = turned_away(self.poll.registry(), seat) {
+            drain(
+                self.poll.registry(),
+                self.drains.as_mut_slice(),
+                stream,
+                now,
+            );
+        }
+        Gate::Given
+    }
+
     /// Waits for what connections send, and hears it.
     fn wait(&mut self, gate: Gate) -> Result<(), Failed> {
         let patience = patience(self.seats.as_slice(), self.drains.as_slice(), gate);
@@ -307,7 +318,7 @@ impl WaitingRoom {
             if let Some(line) = self.take() {
                 return Ok(line);
             }
-            let gate = given_way(self.seats.as_mut_slice(), gate);
+            let gate = self.give_way(gate, now);
             self.wait(gate)?;
         }
         Err(Failed)

@@ -1,8 +1,9 @@
 // Connections come to their seats.
-ghost use Rattle.std.specs.Prelude.{◌≡◌, true, false, is_some};
+ghost use Rattle.std.specs.Prelude.{◌≡◌, true, None, IfSome, is_some};
+ghost use Rattle.std.specs.Io.KnownBytes.{Appends};
 ghost use Rattle.std.specs.List.{list_all};
 ghost use Rattle.serve_room.specs.Posts.{GivesSeat, HasNone};
-ghost use Rattle.serve_room.specs.Giving.{who_gives};
+ghost use Rattle.serve_room.specs.Giving.{who_gives, full_line};
 
 use crate::draining::Drain;
 use crate::hearing::{FIRST_DRAIN, SEATS};
@@ -13,8 +14,8 @@ use mio::net::{TcpListener, TcpStream};
 use mio::{Interest, Registry, Token};
 use road_io::Failed;
 use std::alloc::Global;
-use std::io::ErrorKind;
-use std::net;
+use std::io::{ErrorKind, Write};
+use std::net::{self, Shutdown};
 use std::time::Instant;
 
 /// Whether connections are still to be accepted after a look at the listener.
@@ -140,21 +141,54 @@ fn who_gives(seats: &[Option<Seat>]) -> Who
     WAITING
 }
 
-/// Has a connection give its seat, where all are taken, and says whether one did: the last of those that wait to post a
-/// day or for what is kept, where these have a third of the seats, else the first of those that wait for their head.
-pub(crate) fn give_seat(seats: &mut [Option<Seat>]) -> bool
-    ensures gives { result ≡ true → GivesSeat (who_gives seats.old) seats.old seats.new }
-    ensures keeps { result ≡ false → seats.new ≡ seats.old }
-    ensures none { result ≡ false → list_all is_some seats.old ≡ true → HasNone (who_gives seats.old) seats.old }
+/// Has a connection give its seat, where all are taken, and hands on who did: the last of those that wait to post a day or
+/// for what is kept, where these have a third of the seats, else the first of those that wait for their head.
+pub(crate) fn give_seat(seats: &mut [Option<Seat>]) -> Option<Seat>
+    ensures gives { IfSome result (λ seat. GivesSeat (who_gives seats.old) seats.old seats.new seat) }
+    ensures keeps { result ≡ None → seats.new ≡ seats.old }
+    ensures none { result ≡ None → list_all is_some seats.old ≡ true → HasNone (who_gives seats.old) seats.old }
 {
     if !are_taken(seats) {
-        return false;
+        return None;
     }
     let Some(at) = first_of(seats, who_gives(seats)) else {
-        return false;
+        return None;
     };
-    seats[at] = None;
-    true
+    seats[at].take()
+}
+
+/// What a connection is answered that gives its seat: there is no room in the line, and it may come again.
+const FULL_LINE: &[u8] =
+    b"HTTP/1.1 503 Service Unavailable\r\nContent-Length: 16\r\nContent-Type: application/json\r\n\
+        Connection: close\r\nRetry-After: 10\r\n\r\n{\"error\":\"line\"}";
+
+/// Answers a connection that gives its seat at once, and says whether that was taken whole.
+fn send_away<W: Write>(out: &mut W) -> bool
+    ensures { result ≡ true → Appends (W.contents out.old) (W.contents out.new) full_line }
+{
+    match out.write(FULL_LINE) {
+        Ok(count) => count == FULL_LINE.len(),
+        Err(_) => false,
+    }
+}
+
+/// Answers a connection that gave its seat, and hands it on to be drained. Whoever has sent no whole head is let go
+/// unanswered.
+pub(crate) fn turned_away(registry: &Registry, seat: Seat) -> Option<net::TcpStream> {
+    let Seat {
+        stream,
+        held: _,
+        since: _,
+        called,
+    } = seat;
+    let mut stream = stream;
+    if !called || !send_away(&mut stream) {
+        return None;
+    }
+    let _ = registry.deregister(&mut stream);
+    let stream = net::TcpStream::from(stream);
+    let _ = stream.shutdown(Shutdown::Write);
+    Some(stream)
 }
 
 /// A connection that is drained in a place; none where nothing is to come any more.

@@ -7,6 +7,7 @@ ghost use Rattle.keep_puts.specs.Room.{RoomAnew};
 ghost use Rattle.keep_puts.specs.Puts.{PutsAnew};
 ghost use Rattle.keep_files.specs.Anew.{AnewReady, AskedAnew, IsAnewByTrees};
 ghost use Rattle.keep_files.specs.Causes.{IsSaid};
+ghost use Rattle.keep_files.specs.Closes.{IsTellingWhy};
 ghost use Rattle.keep_files.specs.Origins.{TriesPath};
 ghost use Rattle.keep_files.specs.Storing.{FindsAny, PutsInto};
 
@@ -28,6 +29,7 @@ impl<S: Opens<P>, P: Pages + Drop> Database<S, P> {
             FindsAny (PutsAnew kept.now rows.now))
             self.old.places self.new.places
             self.old.kept (string_bytes self.old.path) self.new.kept self.new.cause result }
+        ensures folded { IsTellingWhy result self.new.kept self.new.unfolded }
         ensures tried { TriesPath S.Store S.Opens.gives S.Opens.refuses (string_bytes self.old.path) self.old.kept }
         ensures said { IsSaid result self.old.cause self.new.cause }
         ensures stays { self.new.path ≡ self.old.path }
@@ -48,6 +50,7 @@ impl<S: Opens<P>, P: Pages + Drop> Database<S, P> {
             (PutsInto S.Store (RoomAnew rows.now) FitsAny (anew kept.now rows.now)
             FindsAny (PutsAnew kept.now rows.now))
             self.old.kept (string_bytes self.old.path) self.new.kept self.new.cause result }
+        ensures folded { IsTellingWhy result self.new.kept self.new.unfolded }
         ensures tried { TriesPath S.Store S.Opens.gives S.Opens.refuses (string_bytes self.old.path) self.old.kept }
         ensures said { IsSaid result self.old.cause self.new.cause }
         ensures stays { self.new.path ≡ self.old.path }
@@ -61,8 +64,9 @@ impl<S: Opens<P>, P: Pages + Drop> Database<S, P> {
             Kept::Whole(whole) => whole,
         };
         match S::to_read_again(&self.rt, whole.give_up().into_store()) {
-            Some(trees) => self.put_anew_by(trees, kept, rows),
-            None => Err(say(&mut self.cause, Cause::NotOurs)),
+            Ok(trees) => self.put_anew_by(trees, kept, rows),
+            Err(None) => Err(say(&mut self.cause, Cause::NotOurs)),
+            Err(Some(cause)) => Err(say(&mut self.cause, cause)),
         }
     }
 
@@ -79,6 +83,7 @@ impl<S: Opens<P>, P: Pages + Drop> Database<S, P> {
             (PutsInto S.Store (RoomAnew rows.now) FitsAny (anew kept.now rows.now)
             FindsAny (PutsAnew kept.now rows.now))
             trees (string_bytes self.old.path) self.new.kept self.new.cause result }
+        ensures folded { IsTellingWhy result self.new.kept self.new.unfolded }
         ensures said { IsSaid result self.old.cause self.new.cause }
         ensures stays { self.new.path ≡ self.old.path }
     {
@@ -95,7 +100,7 @@ impl<S: Opens<P>, P: Pages + Drop> Database<S, P> {
         if !done {
             return Err(say(&mut self.cause, Cause::NotOurs));
         }
-        self.kept = held_again(&rt, store);
+        self.kept = held_again(&rt, store, &mut self.unfolded);
         Ok(())
     }
 }

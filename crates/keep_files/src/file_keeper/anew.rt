@@ -7,6 +7,7 @@ ghost use Rattle.keep_tables.specs.Steps.{FitsAny};
 ghost use Rattle.keep_puts.specs.Room.{RoomAnew};
 ghost use Rattle.keep_puts.specs.Puts.{PutsAnew};
 ghost use Rattle.keep_files.specs.Anew.{AskedAnew};
+ghost use Rattle.keep_files.specs.Closes.{IsTellingWhy};
 ghost use Rattle.keep_files.specs.Origins.{TriesPath};
 ghost use Rattle.keep_files.specs.Says.{Says};
 ghost use Rattle.keep_files.specs.Storing.{FindsAny, PutsInto};
@@ -33,6 +34,7 @@ impl<D: AtPath> FileKeeper<D> {
             self.old.in_file.database.places self.new.in_file.database.places
             self.old.in_file.database.kept (string_bytes self.old.in_file.database.path)
             self.new.in_file.database.kept self.new.in_file.database.cause result }
+        ensures folded { IsTellingWhy result self.new.in_file.database.kept self.new.in_file.database.unfolded }
         ensures tried { TriesPath ⟦<FileStore<D> as Store>⟧ ⟦<FileStore<D> as Opens<Pool<D>>>⟧.gives
             ⟦<FileStore<D> as Opens<Pool<D>>>⟧.refuses
             (string_bytes self.old.in_file.database.path) self.old.in_file.database.kept }

@@ -7,6 +7,7 @@ ghost use Rattle.keep_tables.specs.Steps.{FitsAny};
 ghost use Rattle.keep_puts.specs.Room.{RoomAnew};
 ghost use Rattle.keep_puts.specs.Puts.{PutsAnew};
 ghost use Rattle.keep_files.specs.Anew.{AskedAnew};
+ghost use Rattle.keep_files.specs.Closes.{IsTellingWhy};
 ghost use Rattle.keep_files.specs.Origins.{TriesPath};
 ghost use Rattle.keep_files.specs.Says.{Says};
 ghost use Rattle.keep_files.specs.Storing.{FindsAny, PutsInto};
@@ -28,6 +29,7 @@ impl<S: Opens<P>, P: Pages + Drop> KeeperIn<S, P> {
             self.old.database.places self.new.database.places
             self.old.database.kept (string_bytes self.old.database.path)
             self.new.database.kept self.new.database.cause result }
+        ensures folded { IsTellingWhy result self.new.database.kept self.new.database.unfolded }
         ensures tried { TriesPath S.Store S.Opens.gives S.Opens.refuses
             (string_bytes self.old.database.path) self.old.database.kept }
         ensures cause { CountsFaults self.old.faults self.new.faults result }

@@ -7,6 +7,7 @@ ghost use Rattle.keep_tables.specs.Steps.{FitsAny};
 ghost use Rattle.keep_puts.specs.Room.{RoomAnew};
 ghost use Rattle.keep_puts.specs.Puts.{PutsAnew};
 ghost use Rattle.keep_files.specs.Anew.{AskedAnew};
+ghost use Rattle.keep_files.specs.Closes.{IsTellingWhy};
 ghost use Rattle.keep_files.specs.Origins.{TriesPath};
 ghost use Rattle.keep_files.specs.Says.{Says};
 ghost use Rattle.keep_files.specs.Storing.{FindsAny, PutsInto};
@@ -35,6 +36,8 @@ impl Renews for SqliteKeeper {
             self.old.in_file.in_file.database.places self.new.in_file.in_file.database.places
             self.old.in_file.in_file.database.kept (string_bytes self.old.in_file.in_file.database.path)
             self.new.in_file.in_file.database.kept self.new.in_file.in_file.database.cause result }
+        ensures folded { IsTellingWhy result self.new.in_file.in_file.database.kept
+            self.new.in_file.in_file.database.unfolded }
     {
         self.in_file.put_anew(kept, rows)
     }

@@ -6,8 +6,10 @@ use Rattle.sqlite_pool.specs.Pool as pool
 use Rattle.sqlite_pool.specs.PoolLaws.{Follows-trans}
 use Rattle.sqlite.specs.Files.{image_of}
 use Rattle.keep_files.proofs.FileLaws.{image_is, shows_on}
-use Rattle.keep_files.proofs.LeftLaws.{left_handed, left_pages, left_read, pages_before, read_same, still_before}
-use Rattle.keep_files.proofs.LeftLaws.{were_clean}
+use Rattle.keep_files.specs.Causes.{IsOfChecking}
+use Rattle.keep_files.specs.Files.{AreLeft}
+use Rattle.keep_files.proofs.LeftLaws.{left_pages, pages_before, read_same, still_before, were_clean}
+use Rattle.keep_files.proofs.MissedLaws.{failed_so, foreign_so}
 use Rattle.keep_files.proofs.page_files.trees_of.Goals as goal
 
 -- the pages show what the files recover to
@@ -44,24 +46,21 @@ returns-in-Ok-listed-clause-opened g c =
           (clean_of (pool.state last).is_clean sure);
     }
 
--- the files do not have our form
-pub returns-in_default-clause-left : goal.returns-in_default-clause-left
-returns-in_default-clause-left g c =
-    left_read g.D.Disk g.met.D.Disk.seen_may_stay c.args.files c.our_page_size.new.files c.our_page_size.ensures.reads
-
--- no pages were made of them
-pub returns-in-Err-clause-left : goal.returns-in-Err-clause-left
-returns-in-Err-clause-left g c =
-    left_handed g.D.Disk g.met.D.Disk.seen_may_stay c.args.files c.our_page_size.new.files c.in-Err.files
-    c.our_page_size.ensures.reads c.in-Err.ensures.back
-
 -- the pages could not be recovered
 pub returns-in-Err-recovered-clause-left : goal.returns-in-Err-recovered-clause-left
 returns-in-Err-recovered-clause-left g c =
-    left_pages g.D.Disk c.args.files c.our_page_size.new.files c.in-Ok-pool_over.pool c.in-Err-recovered.pool
+    let last = c.in-Err-recovered.pool in
+    foreign_so (λ left. (left.log, left.db) ≡ pool.files last) (AreLeft g.D.Disk c.args.files)
+    (λ left same. left_pages g.D.Disk c.args.files c.our_page_size.new.files c.in-Ok-pool_over.pool last
     c.our_page_size.ensures.reads c.in-Ok-pool_over.ensures.files (c.in-Ok-pool_over.ensures.sized ∙ c.in-Ok.ensures.sized)
-    (λ clean. c.in-Err-recovered.ensures.kept.crash) g.met.D.Disk.seen_may_stay c.close.result
-    c.in-Ok.ensures.form c.in-Err-recovered.ensures.kept.kept.clean c.close.ensures
+    (λ clean. c.in-Err-recovered.ensures.kept.crash) g.met.D.Disk.seen_may_stay left
+    c.in-Ok.ensures.form c.in-Err-recovered.ensures.kept.kept.clean same)
+    c.missed.result c.missed.ensures.foreign
+
+pub returns-in-Err-recovered-clause-failed : goal.returns-in-Err-recovered-clause-failed
+returns-in-Err-recovered-clause-failed g c =
+    failed_so IsOfChecking c.in-Err-recovered.why c.in-Err-recovered.ensures.failed c.missed.result
+    c.missed.ensures.failed
 
 -- they do not list our trees
 pub returns-in-Err-listed-clause-left : goal.returns-in-Err-listed-clause-left
@@ -76,13 +75,21 @@ returns-in-Err-listed-clause-left g c =
     (clean_of (pool.state mid).is_clean (omega (arith, now, c.in-Err-listed.ensures.back.clean))) in
     let follows : pool.Follows found last =
     Follows-trans found mid last c.in-Ok-folded.ensures.kept c.in-Err-listed.ensures.back.in_order in
-    left_pages g.D.Disk c.args.files c.our_page_size.new.files c.in-Ok-pool_over.pool last c.our_page_size.ensures.reads
+    foreign_so (λ left. (left.log, left.db) ≡ pool.files last) (AreLeft g.D.Disk c.args.files)
+    (λ left same. left_pages g.D.Disk c.args.files c.our_page_size.new.files c.in-Ok-pool_over.pool last
+    c.our_page_size.ensures.reads
     c.in-Ok-pool_over.ensures.files (c.in-Ok-pool_over.ensures.sized ∙ c.in-Ok.ensures.sized)
     (λ clean. still_before g.met.D.Disk.seen_may_stay c.in-Ok-pool_over.pool found last
     c.in-Ok-recovered.ensures.kept.kept.size (c.in-Ok-recovered.ensures.ready (was clean))
     (c.in-Ok-recovered.ensures.found (was clean)) follows)
-    g.met.D.Disk.seen_may_stay c.close-in-Err-listed.result c.in-Ok.ensures.form
-    (λ clean. c.in-Ok-recovered.ensures.kept.kept.clean (was clean)) c.close-in-Err-listed.ensures
+    g.met.D.Disk.seen_may_stay left c.in-Ok.ensures.form
+    (λ clean. c.in-Ok-recovered.ensures.kept.kept.clean (was clean)) same)
+    c.missed-in-Err-listed.result c.missed-in-Err-listed.ensures.foreign
+
+pub returns-in-Err-listed-clause-failed : goal.returns-in-Err-listed-clause-failed
+returns-in-Err-listed-clause-failed g c =
+    failed_so IsOfChecking c.in-Err-listed.why c.in-Err-listed.ensures.failed c.missed-in-Err-listed.result
+    c.missed-in-Err-listed.ensures.failed
 
 -- what their log has could not be copied
 pub returns-in-Err-folded-clause-left : goal.returns-in-Err-folded-clause-left
@@ -91,10 +98,18 @@ returns-in-Err-folded-clause-left g c =
     let last = c.in-Err-folded.pool in
     let was : IsTrue (pool.state last).is_clean → IsTrue (pool.state found).is_clean =
     λ clean. c.in-Err-folded.ensures.kept.keeps.stays.clean clean in
-    left_pages g.D.Disk c.args.files c.our_page_size.new.files c.in-Ok-pool_over.pool last c.our_page_size.ensures.reads
+    foreign_so (λ left. (left.log, left.db) ≡ pool.files last) (AreLeft g.D.Disk c.args.files)
+    (λ left same. left_pages g.D.Disk c.args.files c.our_page_size.new.files c.in-Ok-pool_over.pool last
+    c.our_page_size.ensures.reads
     c.in-Ok-pool_over.ensures.files (c.in-Ok-pool_over.ensures.sized ∙ c.in-Ok.ensures.sized)
     (λ clean. still_before g.met.D.Disk.seen_may_stay c.in-Ok-pool_over.pool found last
     c.in-Ok-recovered.ensures.kept.kept.size (c.in-Ok-recovered.ensures.ready (was clean))
     (c.in-Ok-recovered.ensures.found (was clean)) c.in-Err-folded.ensures.kept)
-    g.met.D.Disk.seen_may_stay c.close-in-Err-folded.result c.in-Ok.ensures.form
-    (λ clean. c.in-Ok-recovered.ensures.kept.kept.clean (was clean)) c.close-in-Err-folded.ensures
+    g.met.D.Disk.seen_may_stay left c.in-Ok.ensures.form
+    (λ clean. c.in-Ok-recovered.ensures.kept.kept.clean (was clean)) same)
+    c.missed-in-Err-folded.result c.missed-in-Err-folded.ensures.foreign
+
+pub returns-in-Err-folded-clause-failed : goal.returns-in-Err-folded-clause-failed
+returns-in-Err-folded-clause-failed g c =
+    failed_so IsOfChecking c.in-Err-folded.why c.in-Err-folded.ensures.failed c.missed-in-Err-folded.result
+    c.missed-in-Err-folded.ensures.failed

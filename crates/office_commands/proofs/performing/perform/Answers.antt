@@ -1,13 +1,13 @@
 -- What each command does, as the table of commands has it.
-use Rattle.std.proofs.Common.{◌∙◌, Some, Ok, sym, ap, refl, subst, rules}
+use Rattle.std.proofs.Common.{◌∙◌, Some, Ok, ap, refl, subst, rules}
 use Rattle.road_io.proofs.SinkLaws.{appends_none}
 use Rattle.office_commands.specs.declared.closing.Closing.{Closing}
 use Rattle.office_commands.specs.declared.closing.Closing.TheVariants.{ReadFault}
 use Rattle.office_commands.specs.Commands.{accidents_command, history_command, tariff_command, generate_command}
-use Rattle.office_commands.specs.Commands.{rehearse_command, check_command, compare_command, office_answer}
+use Rattle.office_commands.specs.Commands.{rehearse_command, check_command, office_answer}
 use Rattle.office_commands.proofs.ReportLaws.{report_office}
 use Rattle.office_commands.proofs.KeepingLaws.{kept_same, closing_same, kept_whole}
-use Rattle.office_commands.proofs.ComparingLaws.{same_log, same_row}
+use Rattle.office_commands.proofs.ComparingLaws.{same_log}
 use Rattle.office_commands.proofs.ConcludeLaws.{did_unchanged, did_silent, closing_holds, closing_of}
 use Rattle.office_commands.proofs.PerformLaws.{source_of, aside_of, keeper_of, crew_of, wrote_silent, by_source}
 use Rattle.office_commands.proofs.PerformLaws.{beside}
@@ -26,29 +26,29 @@ returns-in-Answers-clause-source g c = record {
   passed = search rules;
   reads = (λ used.
       let own = c.run_limits-own in
-      rw c.in-Answers.is (day_same c.in-Answers.run' own.result c.args.limits.now own.ensures.same own.ensures.lines
-      own.ensures.backlog _ _ _ c.answers.ensures.reads));
+      rw c.in-Answers.is (day_same c.in-Answers.run' own.result c.args.terms.limits own.ensures.same own.ensures.lines
+      own.ensures.backlog _ _ _ c.answers.ensures.source.reads));
   rest = search rules;
   bounded = (λ o kept.
       let own = c.run_limits-own in
-      rw c.in-Answers.is (within_same c.in-Answers.run' own.result c.args.limits.now own.ensures.same own.ensures.lines
-      own.ensures.backlog _ _ c.answers.ensures.bounded));
+      rw c.in-Answers.is (within_same c.in-Answers.run' own.result c.args.terms.limits own.ensures.same own.ensures.lines
+      own.ensures.backlog _ _ c.answers.ensures.source.reads.within));
 }
 
 pub returns-in-Answers-clause-read : goal.returns-in-Answers-clause-read
 returns-in-Answers-clause-read g c =
     by_source _ _ _ _ _ _ _ _ _ _ (ap source_of c.in-Answers.is) (λ bad. bad) (λ bad. bad) (λ calm. calm)
-    c.answers.ensures.source
+    c.answers.ensures.source.faults
 
 pub returns-in-Answers-clause-keeper : goal.returns-in-Answers-clause-keeper
 returns-in-Answers-clause-keeper g c = record {
   keeps = (λ bytes lines o right told kept.
       let own = c.run_limits-own in
-      let same = answers_same c.in-Answers.run' own.result c.args.limits.now own.ensures.same own.ensures.lines
+      let same = answers_same c.in-Answers.run' own.result c.args.terms.limits own.ensures.same own.ensures.lines
       own.ensures.backlog bytes o in
       rw c.in-Answers.is (subst (λ (a : Answer). Keeps g.K.Keeper.refuses a o (g.K.Keeper.told c.answers.new.keeper)
       c.answers.result) same
-      (c.answers.ensures.keeps (right (ap crew_of c.in-Answers.is)) bytes o (told (ap source_of c.in-Answers.is)) kept)));
+      (c.answers.ensures.keeper.keeps (right (ap crew_of c.in-Answers.is)) bytes o (told (ap source_of c.in-Answers.is)) kept)));
   puts = search rules;
   unchanged = search rules;
   held = search rules;
@@ -60,18 +60,18 @@ pub returns-in-Answers-clause-sink : goal.returns-in-Answers-clause-sink
 returns-in-Answers-clause-sink g c = record {
   wrote = (λ bytes lines o told.
       let own = c.run_limits-own in
-      let same = answers_same c.in-Answers.run' own.result c.args.limits.now own.ensures.same own.ensures.lines
+      let same = answers_same c.in-Answers.run' own.result c.args.terms.limits own.ensures.same own.ensures.lines
       own.ensures.backlog bytes o in
       rw c.in-Answers.is (subst (λ (a : Answer). Wrote a c.answers.result (g.O.Sink.written c.args.sink.now)
-      (g.O.Sink.written c.answers.new.sink)) same (c.answers.ensures.wrote (told.right (ap crew_of c.in-Answers.is)) bytes
+      (g.O.Sink.written c.answers.new.sink)) same (c.answers.ensures.sink.wrote (told.right (ap crew_of c.in-Answers.is)) bytes
       o (told.source_is (ap source_of c.in-Answers.is)) (told.kept_is (ap keeper_of c.in-Answers.is)))));
   does = (λ bytes lines o told kept.
       let own = c.run_limits-own in
-      let same = answers_same c.in-Answers.run' own.result c.args.limits.now own.ensures.same own.ensures.lines
+      let same = answers_same c.in-Answers.run' own.result c.args.terms.limits own.ensures.same own.ensures.lines
       own.ensures.backlog bytes o in
       rw c.in-Answers.is (subst (λ (a : Answer). Did g.K.Keeper.refuses a o (g.O.Sink.written c.args.sink.now)
       (g.O.Sink.written c.answers.new.sink) (g.K.Keeper.told c.answers.new.keeper) c.answers.result) same
-      (c.answers.ensures.does (told.right (ap crew_of c.in-Answers.is)) bytes o
+      (c.answers.ensures.sink.does (told.right (ap crew_of c.in-Answers.is)) bytes o
       (told.source_is (ap source_of c.in-Answers.is)) kept)));
   sums = (rw c.in-Answers.is tt);
   faults = search rules;
@@ -82,8 +82,8 @@ returns-in-Answers-clause-crew g c = record {
   unused = search rules;
   jobs = (λ bytes used told.
       let own = c.run_limits-own in
-      rw c.in-Answers.is (jobs_same c.in-Answers.run' own.result c.args.limits.now own.ensures.same own.ensures.lines
-      own.ensures.backlog bytes _ _ _ (c.answers.ensures.jobs bytes (told (ap source_of c.in-Answers.is)))));
+      rw c.in-Answers.is (jobs_same c.in-Answers.run' own.result c.args.terms.limits own.ensures.same own.ensures.lines
+      own.ensures.backlog bytes _ _ _ (c.answers.ensures.crew.jobs bytes (told (ap source_of c.in-Answers.is)))));
   idle = search rules;
   same = search rules;
 }
@@ -96,34 +96,34 @@ returns-in-Import-clause-source g c = record {
   reads = (λ used.
       let own = c.run_limits-own-in-Import in
       rw c.in-Import.is (
-        stops_same c.in-Import.run' own.result c.args.limits.now own.ensures.same own.ensures.lines own.ensures.backlog _ _
-            _ c.import.ensures.stops,
-        uncompared_same c.in-Import.run' own.result c.args.limits.now own.ensures.same own.ensures.lines
-            own.ensures.backlog _ _ _ c.import.ensures.uncompared,
+        stops_same c.in-Import.run' own.result c.args.terms.limits own.ensures.same own.ensures.lines own.ensures.backlog _ _
+            _ c.import.ensures.source.stops,
+        uncompared_same c.in-Import.run' own.result c.args.terms.limits own.ensures.same own.ensures.lines
+            own.ensures.backlog _ _ _ c.import.ensures.source.uncompared,
       ));
   rest = (λ bytes o changes told kept.
-      rw c.in-Import.is (c.import.ensures.rest bytes o (told (ap source_of c.in-Import.is)) kept));
+      rw c.in-Import.is (c.import.ensures.source.rest bytes o (told (ap source_of c.in-Import.is)) kept));
   bounded = (λ o kept.
       let own = c.run_limits-own-in-Import in
-      rw c.in-Import.is (imported_same c.in-Import.run' own.result c.args.limits.now own.ensures.same own.ensures.lines
+      rw c.in-Import.is (imported_same c.in-Import.run' own.result c.args.terms.limits own.ensures.same own.ensures.lines
       own.ensures.backlog _ _ (record_of o c.in-Import.run'.day)
-      (c.import.ensures.bounded o (kept (ap keeper_of c.in-Import.is)))));
+      (c.import.ensures.source.bounded o (kept (ap keeper_of c.in-Import.is)))));
 }
 
 pub returns-in-Import-clause-read : goal.returns-in-Import-clause-read
 returns-in-Import-clause-read g c =
     by_source _ _ _ _ _ _ _ _ _ _ (ap source_of c.in-Import.is) (λ bad. bad) (λ bad. bad) (λ calm. calm)
-    c.import.ensures.source
+    c.import.ensures.source.faults
 
 pub returns-in-Import-clause-keeper : goal.returns-in-Import-clause-keeper
 returns-in-Import-clause-keeper g c = record {
   keeps = (λ bytes lines o right told kept.
       let own = c.run_limits-own-in-Import in
-      let same = import_same c.in-Import.run' own.result c.args.limits.now own.ensures.same own.ensures.lines
+      let same = import_same c.in-Import.run' own.result c.args.terms.limits own.ensures.same own.ensures.lines
       own.ensures.backlog bytes o in
       rw c.in-Import.is (subst (λ (a : Answer). Keeps g.K.Keeper.refuses a o (g.K.Keeper.told c.import.new.keeper)
       c.import.result) same
-      (c.import.ensures.keeps (right (ap crew_of c.in-Import.is)) bytes o (told (ap source_of c.in-Import.is)) kept)));
+      (c.import.ensures.keeper.keeps (right (ap crew_of c.in-Import.is)) bytes o (told (ap source_of c.in-Import.is)) kept)));
   puts = search rules;
   unchanged = search rules;
   held = (λ o kept changes well failed room. c.import.ensures.held well failed room ∙ kept);
@@ -135,18 +135,18 @@ pub returns-in-Import-clause-sink : goal.returns-in-Import-clause-sink
 returns-in-Import-clause-sink g c = record {
   wrote = (λ bytes lines o told.
       let own = c.run_limits-own-in-Import in
-      let same = import_same c.in-Import.run' own.result c.args.limits.now own.ensures.same own.ensures.lines
+      let same = import_same c.in-Import.run' own.result c.args.terms.limits own.ensures.same own.ensures.lines
       own.ensures.backlog bytes o in
       rw c.in-Import.is (subst (λ (a : Answer). Wrote a c.import.result (g.O.Sink.written c.args.sink.now)
-      (g.O.Sink.written c.import.new.sink)) same (c.import.ensures.wrote (told.right (ap crew_of c.in-Import.is)) bytes
+      (g.O.Sink.written c.import.new.sink)) same (c.import.ensures.sink.wrote (told.right (ap crew_of c.in-Import.is)) bytes
       o (told.source_is (ap source_of c.in-Import.is)) (told.kept_is (ap keeper_of c.in-Import.is)))));
   does = (λ bytes lines o told kept.
       let own = c.run_limits-own-in-Import in
-      let same = import_same c.in-Import.run' own.result c.args.limits.now own.ensures.same own.ensures.lines
+      let same = import_same c.in-Import.run' own.result c.args.terms.limits own.ensures.same own.ensures.lines
       own.ensures.backlog bytes o in
       rw c.in-Import.is (subst (λ (a : Answer). Did g.K.Keeper.refuses a o (g.O.Sink.written c.args.sink.now)
       (g.O.Sink.written c.import.new.sink) (g.K.Keeper.told c.import.new.keeper) c.import.result) same
-      (c.import.ensures.does (told.right (ap crew_of c.in-Import.is)) bytes o
+      (c.import.ensures.sink.does (told.right (ap crew_of c.in-Import.is)) bytes o
       (told.source_is (ap source_of c.in-Import.is)) kept)));
   sums = (rw c.in-Import.is tt);
   faults = search rules;
@@ -157,32 +157,20 @@ returns-in-Import-clause-crew g c = record {
   unused = search rules;
   jobs = (λ bytes used told.
       let own = c.run_limits-own-in-Import in
-      rw c.in-Import.is (jobs_same c.in-Import.run' own.result c.args.limits.now own.ensures.same own.ensures.lines
-      own.ensures.backlog bytes _ _ _ (c.import.ensures.jobs bytes (told (ap source_of c.in-Import.is)))));
+      rw c.in-Import.is (jobs_same c.in-Import.run' own.result c.args.terms.limits own.ensures.same own.ensures.lines
+      own.ensures.backlog bytes _ _ _ (c.import.ensures.crew.jobs bytes (told (ap source_of c.in-Import.is)))));
   idle = search rules;
   same = search rules;
 }
 
 -- `validate DAY` and `audit DAY`
 pub returns-in-Compare-clause-source : goal.returns-in-Compare-clause-source
-returns-in-Compare-clause-source g c = record {
-  unused = search rules;
-  passed = search rules;
-  reads = (λ used. rw c.in-Compare.is c.compare_and_tell.ensures.reads);
-  rest = search rules;
-  bounded = (λ o kept. rw c.in-Compare.is c.compare_and_tell.ensures.bounded);
-}
+returns-in-Compare-clause-source g c =
+    rw c.in-Compare.is c.compare_and_tell.ensures.source
 
 pub returns-in-Compare-clause-aside : goal.returns-in-Compare-clause-aside
-returns-in-Compare-clause-aside g c = record {
-  unused = search rules;
-  refused_first = (λ s. c.compare_and_tell.ensures.refused_first s);
-  source_first = (λ bytes left more. c.compare_and_tell.ensures.source_first bytes left more);
-  bounded = (λ bytes o right told kept.
-      rw c.in-Compare.is (c.compare_and_tell.ensures.aside_bounded
-      (λ bulk. right (ap aside_of c.in-Compare.is) (ap crew_of c.in-Compare.is ∙ bulk)) bytes o
-      (told (ap source_of c.in-Compare.is)) (kept (ap keeper_of c.in-Compare.is))));
-}
+returns-in-Compare-clause-aside g c =
+    rw c.in-Compare.is c.compare_and_tell.ensures.aside
 
 pub returns-in-Compare-clause-read : goal.returns-in-Compare-clause-read
 returns-in-Compare-clause-read g c =
@@ -190,44 +178,16 @@ returns-in-Compare-clause-read g c =
     (λ bad. bad) (λ bad. bad) c.compare_and_tell.ensures.read
 
 pub returns-in-Compare-clause-keeper : goal.returns-in-Compare-clause-keeper
-returns-in-Compare-clause-keeper g c = record {
-  keeps = (λ bytes lines o right told kept. rw c.in-Compare.is
-      (kept_same _ (compare_command c.args.limits.now c.in-Compare.asked bytes lines o) _ _ _
-      (same_row c.args.limits.now c.in-Compare.asked bytes lines o) (c.compare_and_tell.ensures.kept o kept)));
-  puts = search rules;
-  unchanged = search rules;
-  held = search rules;
-  unused = search rules;
-  faults = search rules;
-}
+returns-in-Compare-clause-keeper g c =
+    rw c.in-Compare.is c.compare_and_tell.ensures.keeper
 
 pub returns-in-Compare-clause-sink : goal.returns-in-Compare-clause-sink
-returns-in-Compare-clause-sink g c = record {
-  wrote = (λ bytes lines o told. rw c.in-Compare.is
-      (c.compare_and_tell.ensures.wrote (λ bulk. told.right (ap crew_of c.in-Compare.is ∙ bulk)) bytes lines o
-      (told.source_is (ap source_of c.in-Compare.is)) (told.aside_is (ap aside_of c.in-Compare.is))
-      (told.kept_is (ap keeper_of c.in-Compare.is))));
-  does = (λ bytes lines o told kept.
-      did_unchanged _ (office_answer c.args.limits.now bytes lines o (Some c.args.command)) o _ _ _ _
-      (rw c.in-Compare.is (same_row c.args.limits.now c.in-Compare.asked bytes lines o))
-      (rw c.in-Compare.is
-      (c.compare_and_tell.ensures.wrote (λ bulk. told.right (ap crew_of c.in-Compare.is ∙ bulk)) bytes lines o
-      (told.source_is (ap source_of c.in-Compare.is)) (told.aside_is (ap aside_of c.in-Compare.is))
-      (told.kept_is (ap keeper_of c.in-Compare.is))))
-      ((returns-in-Compare-clause-keeper g c).keeps bytes lines o told.right told.source_is kept));
-  sums = (rw c.in-Compare.is tt);
-  faults = search rules;
-}
+returns-in-Compare-clause-sink g c =
+    rw c.in-Compare.is c.compare_and_tell.ensures.sink
 
 pub returns-in-Compare-clause-crew : goal.returns-in-Compare-clause-crew
-returns-in-Compare-clause-crew g c = record {
-  unused = (λ none.
-      c.compare_and_tell.ensures.unused (sym (ap crew_of c.in-Compare.is) ∙ none));
-  jobs = (λ bytes used told.
-      rw c.in-Compare.is (c.compare_and_tell.ensures.jobs bytes (told (ap source_of c.in-Compare.is))));
-  idle = search rules;
-  same = search rules;
-}
+returns-in-Compare-clause-crew g c =
+    rw c.in-Compare.is c.compare_and_tell.ensures.crew
 
 pub returns-in-Compare-clause-by : goal.returns-in-Compare-clause-by
 returns-in-Compare-clause-by g c =
@@ -238,26 +198,26 @@ pub returns-in-Past-clause-source : goal.returns-in-Past-clause-source
 returns-in-Past-clause-source g c = record {
   unused = search rules;
   passed = search rules;
-  reads = (λ used. rw c.in-Past.is c.past.ensures.uncompared);
+  reads = (λ used. rw c.in-Past.is c.past.ensures.source.uncompared);
   rest = (λ bytes o changes told kept.
-      rw c.in-Past.is (c.past.ensures.rest bytes o (told (ap source_of c.in-Past.is)) kept));
+      rw c.in-Past.is (c.past.ensures.source.rest bytes o (told (ap source_of c.in-Past.is)) kept));
   bounded = (λ o kept.
-      rw c.in-Past.is (c.past.ensures.bounded o (kept (ap keeper_of c.in-Past.is))));
+      rw c.in-Past.is (c.past.ensures.source.bounded o (kept (ap keeper_of c.in-Past.is))));
 }
 
 pub returns-in-Past-clause-read : goal.returns-in-Past-clause-read
 returns-in-Past-clause-read g c =
     by_source _ _ _ _ _ _ _ _ (Unit {0}) _ (ap source_of c.in-Past.is)
     (closing_of c.past.result ReadFault (Ok (Some c.past.result)) refl) (λ bad. ap (λ (k : Closing). Ok (Some k)) bad)
-    (λ calm. tt) (beside _ _ _ _ _ c.past.ensures.source)
+    (λ calm. tt) (beside _ _ _ _ _ c.past.ensures.source.faults)
 
 pub returns-in-Past-clause-keeper : goal.returns-in-Past-clause-keeper
 returns-in-Past-clause-keeper g c = record {
   keeps = (λ bytes lines o right told kept.
-      rw c.in-Past.is (c.past.ensures.keeps bytes o (told (ap source_of c.in-Past.is)) kept));
-  puts = (λ o kept. rw c.in-Past.is (c.past.ensures.puts o kept));
+      rw c.in-Past.is (c.past.ensures.keeper.keeps bytes o (told (ap source_of c.in-Past.is)) kept));
+  puts = (λ o kept. rw c.in-Past.is (c.past.ensures.keeper.puts o kept));
   unchanged = search rules;
-  held = (λ o kept changes well failed room. c.past.ensures.held well failed room ∙ kept);
+  held = (λ o kept changes well failed room. c.past.ensures.keeper.held well failed room ∙ kept);
   unused = search rules;
   faults = search rules;
 }
@@ -269,9 +229,9 @@ returns-in-Past-clause-sink g c = record {
       (told.kept_is (ap keeper_of c.in-Past.is)))));
   does = (λ bytes lines o told kept.
       rw c.in-Past.is
-      (did_silent _ (history_command c.args.limits.now c.in-Past.base bytes o) _ _ _ _ _ refl
+      (did_silent _ (history_command c.args.terms.limits c.in-Past.base bytes o) _ _ _ _ _ refl
       (c.past.ensures.exact bytes o (told.source_is (ap source_of c.in-Past.is)) kept)
-      (c.past.ensures.keeps bytes o (told.source_is (ap source_of c.in-Past.is)) kept) (appends_none _)));
+      (c.past.ensures.keeper.keeps bytes o (told.source_is (ap source_of c.in-Past.is)) kept) (appends_none _)));
   sums = (rw c.in-Past.is tt);
   faults = search rules;
 }
@@ -292,7 +252,7 @@ returns-in-Day-clause-sink g c = record {
   wrote = (λ bytes lines o told.
       rw c.in-Day.is (c.day.ensures.wrote o (told.kept_is (ap keeper_of c.in-Day.is))));
   does = (λ bytes lines o told kept.
-      did_unchanged _ (office_answer c.args.limits.now bytes lines o (Some c.args.command)) o _ _ _ _
+      did_unchanged _ (office_answer c.args.terms.limits bytes lines o (Some c.args.terms.command)) o _ _ _ _
       (rw c.in-Day.is (report_office _ _ o)) (rw c.in-Day.is (c.day.ensures.wrote o (told.kept_is (ap keeper_of c.in-Day.is))))
       ((returns-in-Day-clause-keeper g c).keeps bytes lines o told.right told.source_is kept));
   sums = (rw c.in-Day.is c.day.ensures.sums);
@@ -316,7 +276,7 @@ returns-in-Vehicle-clause-sink g c = record {
   wrote = (λ bytes lines o told.
       rw c.in-Vehicle.is (c.vehicle.ensures.wrote o (told.kept_is (ap keeper_of c.in-Vehicle.is))));
   does = (λ bytes lines o told kept.
-      did_unchanged _ (office_answer c.args.limits.now bytes lines o (Some c.args.command)) o _ _ _ _
+      did_unchanged _ (office_answer c.args.terms.limits bytes lines o (Some c.args.terms.command)) o _ _ _ _
       (rw c.in-Vehicle.is refl) (rw c.in-Vehicle.is (c.vehicle.ensures.wrote o (told.kept_is (ap keeper_of c.in-Vehicle.is))))
       ((returns-in-Vehicle-clause-keeper g c).keeps bytes lines o told.right told.source_is kept));
   sums = (rw c.in-Vehicle.is tt);
@@ -341,8 +301,8 @@ returns-in-Accidents-clause-read g c =
 pub returns-in-Accidents-clause-keeper : goal.returns-in-Accidents-clause-keeper
 returns-in-Accidents-clause-keeper g c = record {
   keeps = (λ bytes lines o right told kept. rw c.in-Accidents.is
-      (kept_same _ (accidents_command c.args.limits.now c.in-Accidents.late bytes o) _ _ _
-      (same_log c.args.limits.now c.in-Accidents.late bytes o) kept));
+      (kept_same _ (accidents_command c.args.terms.limits c.in-Accidents.late bytes o) _ _ _
+      (same_log c.args.terms.limits c.in-Accidents.late bytes o) kept));
   puts = search rules;
   unchanged = search rules;
   held = search rules;
@@ -355,8 +315,8 @@ returns-in-Accidents-clause-sink g c = record {
   wrote = (λ bytes lines o told.
       rw c.in-Accidents.is (c.accidents.ensures.wrote bytes o (told.source_is (ap source_of c.in-Accidents.is))));
   does = (λ bytes lines o told kept.
-      did_unchanged _ (office_answer c.args.limits.now bytes lines o (Some c.args.command)) o _ _ _ _
-      (rw c.in-Accidents.is (same_log c.args.limits.now c.in-Accidents.late bytes o))
+      did_unchanged _ (office_answer c.args.terms.limits bytes lines o (Some c.args.terms.command)) o _ _ _ _
+      (rw c.in-Accidents.is (same_log c.args.terms.limits c.in-Accidents.late bytes o))
       (rw c.in-Accidents.is (c.accidents.ensures.wrote bytes o (told.source_is (ap source_of c.in-Accidents.is))))
       ((returns-in-Accidents-clause-keeper g c).keeps bytes lines o told.right told.source_is kept));
   sums = (rw c.in-Accidents.is tt);
@@ -379,7 +339,7 @@ returns-in-Export-clause-sink g c = record {
   wrote = (λ bytes lines o told.
       rw c.in-Export.is (c.export.ensures.wrote o (told.kept_is (ap keeper_of c.in-Export.is))));
   does = (λ bytes lines o told kept.
-      did_unchanged _ (office_answer c.args.limits.now bytes lines o (Some c.args.command)) o _ _ _ _
+      did_unchanged _ (office_answer c.args.terms.limits bytes lines o (Some c.args.terms.command)) o _ _ _ _
       (rw c.in-Export.is (report_office _ _ o)) (rw c.in-Export.is (c.export.ensures.wrote o (told.kept_is (ap keeper_of c.in-Export.is))))
       ((returns-in-Export-clause-keeper g c).keeps bytes lines o told.right told.source_is kept));
   sums = (rw c.in-Export.is tt);
@@ -442,7 +402,7 @@ returns-in-Tariffs-clause-sink g c = record {
   wrote = (λ bytes lines o told.
       rw c.in-Tariffs.is (c.tariffs.ensures.wrote o (told.kept_is (ap keeper_of c.in-Tariffs.is))));
   does = (λ bytes lines o told kept.
-      did_unchanged _ (office_answer c.args.limits.now bytes lines o (Some c.args.command)) o _ _ _ _
+      did_unchanged _ (office_answer c.args.terms.limits bytes lines o (Some c.args.terms.command)) o _ _ _ _
       (rw c.in-Tariffs.is refl) (rw c.in-Tariffs.is (c.tariffs.ensures.wrote o (told.kept_is (ap keeper_of c.in-Tariffs.is))))
       ((returns-in-Tariffs-clause-keeper g c).keeps bytes lines o told.right told.source_is kept));
   sums = (rw c.in-Tariffs.is tt);
@@ -465,7 +425,7 @@ pub returns-in-Generate-clause-sink : goal.returns-in-Generate-clause-sink
 returns-in-Generate-clause-sink g c = record {
   wrote = (λ bytes lines o told. rw c.in-Generate.is (c.generate.ensures.wrote o));
   does = (λ bytes lines o told kept.
-      did_unchanged _ (office_answer c.args.limits.now bytes lines o (Some c.args.command)) o _ _ _ _
+      did_unchanged _ (office_answer c.args.terms.limits bytes lines o (Some c.args.terms.command)) o _ _ _ _
       (rw c.in-Generate.is refl) (rw c.in-Generate.is (c.generate.ensures.wrote o))
       ((returns-in-Generate-clause-keeper g c).keeps bytes lines o told.right told.source_is kept));
   sums = (rw c.in-Generate.is tt);
@@ -489,7 +449,7 @@ returns-in-Rehearse-clause-sink g c = record {
   wrote = (λ bytes lines o told.
       rw c.in-Rehearse.is (wrote_silent _ _ _ (c.rehearse.ensures.exact (told.right (ap crew_of c.in-Rehearse.is)) o)));
   does = (λ bytes lines o told kept.
-      did_silent _ (office_answer c.args.limits.now bytes lines o (Some c.args.command)) o _ _ _ _
+      did_silent _ (office_answer c.args.terms.limits bytes lines o (Some c.args.terms.command)) o _ _ _ _
       (rw c.in-Rehearse.is refl)
       (rw c.in-Rehearse.is (c.rehearse.ensures.exact (told.right (ap crew_of c.in-Rehearse.is)) o))
       ((returns-in-Rehearse-clause-keeper g c).keeps bytes lines o told.right told.source_is kept) (appends_none _));
@@ -522,7 +482,7 @@ returns-in-Days-clause-sink g c = record {
   wrote = (λ bytes lines o told.
       rw c.in-Days.is (c.days.ensures.wrote o (told.kept_is (ap keeper_of c.in-Days.is))));
   does = (λ bytes lines o told kept.
-      did_unchanged _ (office_answer c.args.limits.now bytes lines o (Some c.args.command)) o _ _ _ _
+      did_unchanged _ (office_answer c.args.terms.limits bytes lines o (Some c.args.terms.command)) o _ _ _ _
       (rw c.in-Days.is refl) (rw c.in-Days.is (c.days.ensures.wrote o (told.kept_is (ap keeper_of c.in-Days.is))))
       ((returns-in-Days-clause-keeper g c).keeps bytes lines o told.right told.source_is kept));
   sums = (rw c.in-Days.is tt);
@@ -546,7 +506,7 @@ returns-in-Charges-clause-sink g c = record {
   wrote = (λ bytes lines o told.
       rw c.in-Charges.is (c.charges.ensures.wrote o (told.kept_is (ap keeper_of c.in-Charges.is))));
   does = (λ bytes lines o told kept.
-      did_unchanged _ (office_answer c.args.limits.now bytes lines o (Some c.args.command)) o _ _ _ _
+      did_unchanged _ (office_answer c.args.terms.limits bytes lines o (Some c.args.terms.command)) o _ _ _ _
       (rw c.in-Charges.is refl) (rw c.in-Charges.is (c.charges.ensures.wrote o (told.kept_is (ap keeper_of c.in-Charges.is))))
       ((returns-in-Charges-clause-keeper g c).keeps bytes lines o told.right told.source_is kept));
   sums = (rw c.in-Charges.is tt);
@@ -571,7 +531,7 @@ returns-in-Check-clause-read g c =
 pub returns-in-Check-clause-keeper : goal.returns-in-Check-clause-keeper
 returns-in-Check-clause-keeper g c = record {
   keeps = (λ bytes lines o right told kept. rw c.in-Check.is
-      (kept_same _ (check_command c.args.limits.now c.in-Check.number c.in-Check.late bytes o) _ _ _ refl kept));
+      (kept_same _ (check_command c.args.terms.limits c.in-Check.number c.in-Check.late bytes o) _ _ _ refl kept));
   puts = search rules;
   unchanged = search rules;
   held = search rules;
@@ -584,7 +544,7 @@ returns-in-Check-clause-sink g c = record {
   wrote = (λ bytes lines o told.
       rw c.in-Check.is (c.check.ensures.wrote bytes o (told.source_is (ap source_of c.in-Check.is))));
   does = (λ bytes lines o told kept.
-      did_unchanged _ (office_answer c.args.limits.now bytes lines o (Some c.args.command)) o _ _ _ _
+      did_unchanged _ (office_answer c.args.terms.limits bytes lines o (Some c.args.terms.command)) o _ _ _ _
       (rw c.in-Check.is refl) (rw c.in-Check.is (c.check.ensures.wrote bytes o (told.source_is (ap source_of c.in-Check.is))))
       ((returns-in-Check-clause-keeper g c).keeps bytes lines o told.right told.source_is kept));
   sums = (rw c.in-Check.is tt);

@@ -19,3 +19,6 @@ returns-in-Ok-clause-does g c =
 
 pub returns-in-Ok-clause-tried : goal.returns-in-Ok-clause-tried
 returns-in-Ok-clause-tried g c = rw c.in-Ok.ensures.same at c.put_ready-answer.ensures.tried
+
+pub returns-in-Ok-clause-folded : goal.returns-in-Ok-clause-folded
+returns-in-Ok-clause-folded g c = c.confirmed.ensures.folded c.put_ready-answer.ensures.folded

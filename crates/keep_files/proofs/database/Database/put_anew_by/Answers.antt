@@ -1,9 +1,10 @@
 use Rattle.std.proofs.Common.{◌≡◌, inl, inr, refl, string_bytes, subst, sym}
 use Rattle.keep_files.specs.declared.kept.Kept.TheVariants.{Trees}
-use Rattle.keep_files.specs.Openings.{FromPages, IfWhole, AsTrees, AsStore}
+use Rattle.keep_files.specs.Openings.{FromPages, FromStore, IfWhole, AsTrees, AsStore}
 use Rattle.keep_files.specs.Origins.{Comes, FoundAgain, PutsNothing, at_first, of_pages}
 use Rattle.keep_files.proofs.AnewLaws.{not_anew, put_anew_so, told_anew, told_failed_anew, told_foreign}
 use Rattle.keep_files.proofs.AskedLaws.{holds_none}
+use Rattle.keep_files.proofs.MissedLaws.{telling_of}
 use Rattle.keep_files.proofs.OriginLaws.{put_given}
 use Rattle.keep_files.proofs.StoringLaws.{puts_any}
 use Rattle.keep_files.proofs.database.Database.put_anew_by.Goals as goal
@@ -104,4 +105,10 @@ returns-clause-does g c =
     c.in-Ok-Trees.field-0-is c.in-Ok-Trees.ensures.opened))
     (puts_any g.S.Store _ _ _ _ _ _ _ c.put_anew.ensures.stores c.put_anew.ensures.writes)
     (told_anew _ _ c.put_anew.result c.in-Ok.done c.in-Ok.is c.if-not-done.false)
-    c.held_again.ensures
+    c.held_again.ensures.held
+
+-- and where none are held it is said why
+pub returns-clause-folded : goal.returns-clause-folded
+returns-clause-folded g c =
+    telling_of (g.S.Opens.foreign (FromStore c.put_anew.new.store)) (g.S.Opens.refuses (FromStore c.put_anew.new.store))
+    c.held_again.result c.held_again.new.unfolded c.held_again.ensures.told

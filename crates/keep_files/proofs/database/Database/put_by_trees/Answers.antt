@@ -2,9 +2,10 @@ use Rattle.std.proofs.Common.{◌≡◌, inl, inr, refl, string_bytes, sym}
 use Rattle.keep_files.specs.declared.kept.Kept.TheVariants.{Trees, Whole}
 use Rattle.keep_files.specs.Asked.{Misfits}
 use Rattle.keep_files.specs.Storing.{PutsInto}
-use Rattle.keep_files.specs.Openings.{AsTrees, AsStore, AsWhole}
+use Rattle.keep_files.specs.Openings.{AsTrees, AsStore, AsWhole, FromStore}
 use Rattle.keep_files.specs.Origins.{Comes, FoundAgain, at_first, by_put, of_pages, of_store}
 use Rattle.keep_files.proofs.AskedLaws.{holds_none, misfits_so, not_put, put_over, stored_so, told_done, told_failed}
+use Rattle.keep_files.proofs.MissedLaws.{telling_of}
 use Rattle.keep_files.proofs.OriginLaws.{put_given}
 use Rattle.keep_files.proofs.database.Database.put_by_trees.Goals as goal
 
@@ -73,7 +74,7 @@ returns-then-done-clause-does g c =
     (put_given g.S.Opens.gives c.give_up.result c.args.trees.pages c.in-Ok-Trees.field-0
     (Trees c.in-Ok-Trees.store) c.give_up.ensures
     c.in-Ok-Trees.field-0-is c.in-Ok-Trees.ensures.opened))
-    c.store.ensures (told_done _ _ c.store.result c.in-Ok.done c.in-Ok.is c.if-done.true) c.held_again.ensures
+    c.store.ensures (told_done _ _ c.store.result c.in-Ok.done c.in-Ok.is c.if-done.true) c.held_again.ensures.held
 
 -- it did not fit, and the file of the store was opened whole
 pub returns-in-Ok-to_whole-clause-does : goal.returns-in-Ok-to_whole-clause-does
@@ -120,3 +121,9 @@ returns-in-Err-to_whole-clause-does g c =
       ),
     )))
     (c.say-in-Err-to_whole.ensures.fault, c.say-in-Err-to_whole.ensures.which)
+
+-- it was done, and where no trees are held it is said why
+pub returns-then-done-clause-folded : goal.returns-then-done-clause-folded
+returns-then-done-clause-folded g c =
+    telling_of (g.S.Opens.foreign (FromStore c.store.new.store)) (g.S.Opens.refuses (FromStore c.store.new.store))
+    c.held_again.result c.held_again.new.unfolded c.held_again.ensures.told

@@ -1,7 +1,11 @@
 use Rattle.keep_files.specs.Openings.{put_part}
 use Rattle.keep_files.proofs.FileLaws.{of_closed}
-use Rattle.keep_files.proofs.RefuseLaws.{refused_closed}
+use Rattle.keep_files.proofs.RefuseLaws.{foreign_closed, refused_closed}
 use Rattle.keep_files.proofs.opens.FileStoreOpensPool.to_put.Goals as goal
+
+pub returns-clause-whole : goal.returns-clause-whole
+returns-clause-whole g c =
+    foreign_closed g.D.Disk c.close.result c.args.pages c.close.ensures c.stored.result c.stored.ensures.opened
 
 pub returns-clause-opened : goal.returns-clause-opened
 returns-clause-opened g c =
