@@ -6,11 +6,15 @@
 //! with nothing; with none of them the office's own thread runs all jobs.
 #![tactic(auto)]
 
-ghost use Rattle.std.specs.Prelude.{◌≡◌, ◌≢◌, ◌↔◌, [], None, map, false};
+ghost use Rattle.std.specs.Prelude.{◌≡◌, ◌≢◌, ◌↔◌, ℕ, [], Some, None, map};
 ghost use Rattle.std.specs.String.{string_bytes};
+ghost use Rattle.road_io.specs.Blame.{FaultsByRoom};
+ghost use Rattle.road_time.specs.declared.day.TheConstants.Limits.{DAY};
 ghost use Rattle.day_import.specs.Faults.{FaultsBeside};
-ghost use Rattle.office_commands.specs.Uses.{asked, uses_keeper};
-ghost use Rattle.office_ends.specs.Words.{renewal_said};
+ghost use Rattle.office_commands.specs.Ran.{Ran};
+ghost use Rattle.office_commands.specs.Uses.{asked};
+ghost use Rattle.office_ends.specs.Anew.{BeginsAnew};
+ghost use Rattle.office_ends.specs.Words.{renewal_said, drop_said};
 ghost use Rattle.office_words.specs.Meaning.{means};
 ghost use Rattle.office_words.specs.Waits.{words_left};
 
@@ -19,7 +23,7 @@ use keep_office::Keeper;
 use office_commands::{ASIDE_FILE, Closing};
 use office_ends::answered;
 use office_words::{WordsLeft, wait_taken};
-use road_io::{FileSource, StdSink, StdSource, Writing, words_of};
+use road_io::{FileSource, Sink, Source, StdSink, StdSource, Writing, words_of};
 use road_time::Limits;
 use std::alloc::Global;
 use std::process::ExitCode;
@@ -41,47 +45,53 @@ fn line_of(alloc: Global, cause: Option<Cause>) -> Option<String> {
     }
 }
 
-/// The status of the office over standard input and output and the file beside it, by what it keeps and a crew, as
-/// `answered` has it. Why it failed is said on standard error.
-fn run_words<R: Threads + Sync, C: Crew>(
+/// The status of the office over streams and files that are given, by what it keeps and a crew: all that `answered`
+/// promises of them. Why it failed is said to a sink of its own.
+fn run_words<S: Source, A: Source, O: Sink, E: Sink, R: Threads + Sync, C: Crew>(
     rt: &HostRuntime,
     threads: &R,
     words: &[String],
-    aside: &mut FileSource,
+    source: &mut S,
+    aside: &mut A,
+    sink: &mut O,
     keeper: &mut SqliteKeeper,
+    err: &mut E,
     crew: &mut C,
 ) -> u8
     requires { C.out crew.old ≡ [] }
-    ensures words { renewal_said (map string_bytes words.now) ≡ None → result ≢ 5 → result ≢ 8
-        → (result ≡ 1 ↔ (asked words.now ≡ None)) }
+    ensures renewal { (base : ℕ) → renewal_said (map string_bytes words.now) ≡ Some base
+        → BeginsAnew O.Sink ⟦<SqliteKeeper as Keeper>⟧ (drop_said (map string_bytes words.now)) base result
+        (record { source = source.old; aside = aside.old; sink = sink.old; keeper = keeper.old; crew = crew.old })
+        (record { source = source.new; aside = aside.new; sink = sink.new; keeper = keeper.new; crew = crew.new }) }
+    ensures office { renewal_said (map string_bytes words.now) ≡ None
+        → Ran S.Source A.Source O.Sink ⟦<SqliteKeeper as Keeper>⟧ C.Crew DAY (asked words.now) result
+        (record { source = source.old; aside = aside.old; sink = sink.old; keeper = keeper.old; crew = crew.old })
+        (record { source = source.new; aside = aside.new; sink = sink.new; keeper = keeper.new; crew = crew.new }) }
     ensures keeper { FaultsBeside (⟦<SqliteKeeper as Keeper>⟧.faults keeper.old)
         (⟦<SqliteKeeper as Keeper>⟧.faults keeper.new) (⟦<SqliteKeeper as Keeper>⟧.plan keeper.old) (result ≡ 6)
         (result ≢ 5) }
-    ensures keeper_unused { renewal_said (map string_bytes words.now) ≡ None
-        → uses_keeper (asked words.now) ≡ false → keeper.new ≡ keeper.old }
+    ensures sink { FaultsByRoom (O.faults sink.old) (O.faults sink.new) (O.room sink.old) (O.room sink.new)
+        (result ≡ 5) }
     ensures idle { C.out crew.new ≡ [] }
     ensures which { C.which crew.new ≡ C.which crew.old }
 {
-    let mut source = StdSource::new(rt.stdin());
-    let mut sink = StdSink::new(rt.stdout());
-    let mut err = Writing::new(rt.stderr());
     let why = |keeper: &SqliteKeeper| line_of(rt.alloc(), keeper.cause());
     answered(
         threads,
         rt.alloc(),
         words,
         &Limits::DAY,
-        &mut source,
+        source,
         aside,
-        &mut sink,
+        sink,
         keeper,
         &why,
-        &mut err,
+        err,
         crew,
     )
 }
 
-/// The same over the two files, by all words: where another program has the file `KEPT_FILE` open, each call waits for
+/// The same over standard input, output and error and the two files, by all words: where another program has the file `KEPT_FILE` open, each call waits for
 /// it as long as they say, and they are read without that.
 fn run_waiting<R: Threads + Sync, C: Crew>(
     rt: &HostRuntime,
@@ -102,7 +112,20 @@ fn run_waiting<R: Threads + Sync, C: Crew>(
     let Ok(mut keeper) = SqliteKeeper::waiting(rt.alloc(), *rt, KEPT_FILE, seconds) else {
         return Closing::NoMemory.status();
     };
-    let status = run_words(rt, threads, words.as_slice(), &mut aside, &mut keeper, crew);
+    let mut source = StdSource::new(rt.stdin());
+    let mut sink = StdSink::new(rt.stdout());
+    let mut err = Writing::new(rt.stderr());
+    let status = run_words(
+        rt,
+        threads,
+        words.as_slice(),
+        &mut source,
+        &mut aside,
+        &mut sink,
+        &mut keeper,
+        &mut err,
+        crew,
+    );
     close_said(rt, keeper, "toll_office");
     status
 }
