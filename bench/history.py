@@ -6,11 +6,12 @@
 
 PROGRAM is crates/toll_office/out/toll_office. A history of 69 days is put by `past` into an empty folder; beside it the
 same folder with no history. Over each, in this order: `day`, `vehicle`, `tariffs`, `answers` of a day of expenditure
-requests, `import` of a day of lines (by `day.c`), `day` again, `tariff`. For each a line: wall time, processor time,
-greatest memory and the status; for the look-ups also what python's sqlite3 takes for the same rows, whose answers must be
-the same. After each put the file must pass `PRAGMA integrity_check` and have its rows, and it must stand alone: no log
-with pages beside it. The script ends with status 1 at the first difference. Memory below 10 MB shows as that: a small
-python starts each command.
+requests, `import` of a day of lines (by `day.c`), `day` again, `tariff`, `audit`, `validate` and `accidents` of that
+day; and `tariffs` once more where another hand made a table, so that the file is opened whole. For each a line: wall
+time, processor time, greatest memory and the status; for the look-ups also what python's sqlite3 takes for the same
+rows, whose answers must be the same. After each put the file must pass `PRAGMA integrity_check` and have its rows, and
+it must stand alone: no log with pages beside it. The script ends with status 1 at the first difference. Memory below 10
+MB shows as that: a small python starts each command.
 
 With --ways it tries `past` alone, in three ways that must keep the same rows: into an empty folder, over a file that is
 there and keeps nothing, and over one with a table of another hand, which is opened whole and put by statements.
@@ -184,6 +185,22 @@ def try_folder(program, folder, amounts, files, asked):
     expect(text.splitlines()[:1] == ["3,40,45,3"], f"tariffs: {text!r}")
 
 
+def try_others(program, folder, day, lines):
+    """The commands that compare or list, over a day of lines; then a file that is not exactly ours, which is opened whole."""
+    text, status = run(folder, [program, "answers", str(BASE + 2)], day)
+    expect(status == 0, "answers of the day")
+    (folder / "notices.txt").write_text(text)
+    for words in [["audit", str(BASE + 2)]] + [["validate", str(BASE + 2)], ["accidents"]] * (lines <= 1_000_000):
+        _, status = run(folder, [program, *words], day)
+        expect(status == 0, words[0])
+    with contextlib.closing(sqlite3.connect(folder / KEPT)) as database:
+        database.execute("CREATE TABLE theirs (one INTEGER)")
+        database.commit()
+        print(f"{folder.name:12} of another hand: {database.execute('SELECT count(*) FROM spent').fetchone()[0]} amounts, opened whole by")
+    _, status = run(folder, [program, "tariffs"], os.devnull)
+    expect(status == 0, "tariffs of a file with a table more")
+
+
 def kept_rows(folder):
     """What the file keeps of a history, but for the order in which it lies there."""
     with contextlib.closing(looked_at(folder)) as database:
@@ -221,6 +238,7 @@ def try_all(program, room, files, given):
         shutil.rmtree(folder, ignore_errors=True)
         folder.mkdir()
         try_folder(program, folder, amounts, files, asked)
+        try_others(program, folder, files[2], given.lines)
 
 
 def main():

@@ -34,7 +34,7 @@ CHECKS = ["tools/write_docs.py --check", "tools/pictures.py --check", "tools/che
           "tools/edits.py --stand", "trials/try_completion.py"]
 # each with the tools that it needs
 TRIALS = [(f"trials/try_commands.py {OFFICE}", ["cc"]), (f"trials/try_docs.py {OFFICE} {SERVE}", ["curl"]),
-          (f"trials/try_foreign.py {OFFICE}", []), (f"trials/try_renew.py {OFFICE}", []), (f"trials/try_unsound.py {OFFICE}", []),
+          (f"trials/try_foreign.py {OFFICE}", ["cc"]), (f"trials/try_renew.py {OFFICE}", []), (f"trials/try_unsound.py {OFFICE}", []),
           (f"trials/try_power.py {SERVE} {OFFICE} --images 100 --every 5", ["cc"]), (f"trials/try_left_over.py {OFFICE}", []),
           (f"trials/try_replaced.py {SERVE} {OFFICE}", []),
           (f"trials/try_new_folder.py {OFFICE}", ["sqlite3"]), (f"trials/try_serve.py {SERVE} --short", ["cc", "curl"]),

@@ -1,5 +1,5 @@
 /* For LD_PRELOAD. Behind the first READS reads of standard input each fails; behind the first ROOM bytes to standard output each
-   write does, as on a disk that is full. */
+   write does, as on a disk that is full. Where UNDRAWN is set the system gives no random number. */
 #define _GNU_SOURCE
 #include <dlfcn.h>
 #include <errno.h>
@@ -21,6 +21,8 @@ ssize_t read(int fd, void *bytes, size_t length) {
         return failed(EIO);
     return REAL(read)(fd, bytes, length);
 }
+
+int getentropy(void *bytes, size_t length) { return getenv("UNDRAWN") ? failed(ENOSYS) : REAL(getentropy)(bytes, length); }
 
 ssize_t write(int fd, const void *bytes, size_t length) {
     static size_t taken;

@@ -6,12 +6,12 @@
 PROGRAM is the executable toll_office. python's sqlite3 makes each file under the name of the kept file: a file of
 another hand, a mixture of tables, one table more or less, a later version, a kept day without its seal; others are no
 database, locked by another program, replaced under a command, empty beside a log with pages, linked, not to be written
-to, on a full disk, or in a folder that is gone. Each command that comes
-upon one must end with status 6 and the closing line of a keeper's fault, say the cause in one line on standard error,
-and leave the bytes of the file as they were. Beside them a file of version 1 and one without tables must be taken
-over and made, a source that fails and a close that fails must be said, and what goes well must be silent. A row of a
-user other than root or of a full disk is passed over where this script may not change the user or mount; it says so.
-The script ends with status 1 at the first difference.
+to, on a full disk, or in a folder that is gone; or no number is drawn. Each command that comes upon one must end with
+status 6 and the closing line of a keeper's fault, say the cause in one line on standard error, and leave the bytes of
+the file as they were. Beside them a file of version 1 and one without tables must be taken over and made, a source that
+fails and a close that fails must be said, and what goes well must be silent. A row of a user other than root or of a
+full disk is passed over where this script may not change the user or mount; it says so. The script ends with status 1
+at the first difference.
 """
 import contextlib
 import os
@@ -23,7 +23,7 @@ import sys
 import tempfile
 import time
 
-from office import fail, tables
+from office import fail, preloaded, tables
 
 DIGEST = bytes.fromhex("e3b0c44298fc1c149afbf4c8996fb92427ae41e4649b934ca495991b7852b855")
 LINE = "0,0,7,30,0,0,0,10,52800,-1,-1,-1,-1,-1,-1\n"
@@ -59,6 +59,7 @@ NOT_OURS = "it is no database of these programs"
 OTHER_VERSION = "it is of another version than 2"
 ODD_ROW = "a row of it is not as these programs write it"
 UNOPENED = "it cannot be opened"
+NO_NUMBER = "the system gave no random number"
 UNREADABLE = "a page or a row of it is spoiled, or the disk failed"
 NO_ROOM = "there is no room for it on the disk"
 REPLACED = "it was replaced, removed or emptied while it was open, or its log was, or it got a second name"
@@ -172,6 +173,13 @@ def replaced(kept):
     """A folder has the file's name."""
     kept.unlink()
     kept.mkdir()
+
+
+def undrawn(program):
+    """The system gives no random number for an opening."""
+    with tempfile.TemporaryDirectory() as folder:
+        how = {"env": {**os.environ, "LD_PRELOAD": preloaded("fail_streams", folder), "UNDRAWN": "1"}}
+        beside(program, "a file for whose opening no number is drawn", NO_NUMBER, lambda kept: None, **how)
 
 
 def gone(program):
@@ -380,6 +388,7 @@ def main():
     beside(program, "a journal beside it", JOURNAL, lambda kept: kept.with_name("tolls.db-journal").write_bytes(b"\xd9"))
     beside(program, "a second name", NOT_PLAIN, linked)
     beside(program, "a folder", NOT_PLAIN, replaced)
+    undrawn(program)
     gone(program)
     in_use(program)
     replaced_under(program)
