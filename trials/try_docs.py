@@ -73,8 +73,8 @@ INLINE = {
          "installed/bin: toll_office toll_serve  installed/share/man/man1: toll_office.1 toll_serve.1 ")],
     "make release": [
         ('(cd "$OLD"; git rev-parse -q --verify HEAD > commit 2>&1 || (git init -q && git -c user.name=room -c user.email=room@localhost '
-         'commit -q --allow-empty -m room); make -s release | cut -c 67-)', "ductchervil-..-linux-x86_64.tar.gz"),
-        ('(cd "$OLD"/dist/ductchervil-*/ && sha256sum --quiet -c SHA256SUMS && ls)', "..README.md..bin..")],
+         'commit -q --allow-empty -m room); make -s release | cut -c 67- && cd dist/ductchervil-*/ && sha256sum --quiet -c SHA256SUMS '
+         '&& ls -d README.md bin)', "ductchervil-..-linux-x86_64.tar.gz\nREADME.md\nbin")],
     "grep -w NAME crates.txt": [('grep -c -w road_time "$SOURCE/crates.txt"', "..")],
     "ulimit -n": [("ulimit -n | wc -l", "1")],
     # the gate runs these with --check
